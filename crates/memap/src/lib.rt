@@ -1,0 +1,310 @@
+// Copyright 2026 Kenta Ida
+// SPDX-License-Identifier: Apache-2.0
+// Ported from arm-debug/src/lib.rs of ciniml/rust-dap.
+
+// Registers of the two ports with the SELECT and CSW caches, words and runs of words, each transfer by transfer.
+ghost use mathlib.Core.Path.{_≡_};
+ghost use mathlib.Core.List.{List};
+ghost use Prim.Native.Nat.{ℕ, _-_};
+ghost use lib.ListN.{set, getD};
+ghost use Rattle.transport.specs.Wire.{Memory};
+ghost use Rattle.transport.specs.Transfer.{transfer, raw};
+ghost use Rattle.memap.specs.Action.{Then};
+ghost use Rattle.memap.specs.Ports.{apAccess};
+ghost use Rattle.memap.specs.Words.{pull, push};
+ghost use Rattle.memap.specs.Ops.{perform};
+ghost use Rattle.memap.specs.Flight.{memoryOf, reachAfter, launchedTree, reachedTree, dataAt, atTar, ensuringTask, noTask, opAfter, startedTree, wentTree};
+use transport::{Call, Outcome, Remembered, Transfer};
+
+// What follows an access's transfer: while `selecting`, the transfer `request` with `word`.
+pub struct Reach {
+    pub selecting: bool,
+    pub select: u32,
+    pub request: u8,
+    pub word: u32,
+}
+
+// An access and its transport call, in flight.
+pub struct Launched {
+    pub reach: Reach,
+    pub transfer: Transfer,
+}
+
+pub enum Reached {
+    Going(Remembered, Launched),
+    Over(Remembered, Outcome),
+}
+
+// A transfer with no SELECT before it.
+fn direct(request: u8, word: u32) -> Launched
+    ensures { λ r. ⌜ ((m : Memory) (k : Then) → transfer m request word (k m) ≡ launchedTree m r k) ⌝ }
+{
+    let t = transport::begin(request, word);
+    Launched { reach: Reach { selecting: false, select: 0, request: 0, word: 0 }, transfer: t }
+}
+
+fn direct_raw(c: Call) -> Launched
+    ensures { λ r. ⌜ ((m : Memory) (k : Then) → raw m c (k m) ≡ launchedTree m r k) ⌝ }
+{
+    let t = transport::begin_raw(c);
+    Launched { reach: Reach { selecting: false, select: 0, request: 0, word: 0 }, transfer: t }
+}
+
+// A transfer to a register of the access port: SELECT first, where it differs from the one remembered.
+fn access_start(r: Remembered, request: u8, addr: u8, word: u32) -> Launched
+    ensures { λ x. ⌜ ((ws buf : List ℕ) (k : Then) → apAccess request addr word k (memoryOf r ws buf) ≡ launchedTree (memoryOf r ws buf) x k) ⌝ }
+{
+    let s = (r.apsel as u32) * 0x1000000 + (addr as u32) / 16 * 16;
+    if s == r.select {
+        return direct(request, word);
+    }
+    let t = transport::begin(8, s);
+    Launched { reach: Reach { selecting: true, select: s, request: request, word: word }, transfer: t }
+}
+
+// What an access does with the outcome of its transfer.
+pub fn reach_after(r: Remembered, a: Reach, o: Outcome) -> Reached
+    ensures { λ x. ⌜ ((ws buf : List ℕ) (k : Then) → reachAfter a k (memoryOf r ws buf) o ≡ reachedTree (memoryOf r ws buf) x k) ⌝ }
+{
+    if a.selecting {
+        match o {
+            Outcome::Value(_) => {
+                let d = direct(a.request, a.word);
+                return Reached::Going(Remembered { select: a.select, csw_valid: r.csw_valid, apsel: r.apsel }, d);
+            }
+            Outcome::Failed(_) => {
+                return Reached::Over(r, o);
+            }
+        }
+    }
+    Reached::Over(r, o)
+}
+
+// What a call may ask for. The words of a run stand in the row, the last at place `last`.
+pub enum Op {
+    DpRead { addr: u8 },
+    DpWrite { addr: u8, word: u32 },
+    ApRead { addr: u8 },
+    ApWrite { addr: u8, word: u32 },
+    ReadWord { addr: u32 },
+    WriteWord { addr: u32, word: u32 },
+    ReadWords { addr: u32, n: u32, last: u32 },
+    WriteWords { addr: u32, n: u32, last: u32 },
+    Other(Call),
+}
+
+// Which access of an operation is in flight.
+pub enum Phase {
+    Only,
+    Unit,
+    Posted,
+    Csw,
+    Tar,
+    Sent,
+    First,
+    Pull,
+    Last,
+    Push,
+}
+
+pub enum Kind {
+    ReadWord,
+    WriteWord,
+    ReadWords,
+    WriteWords,
+}
+
+// What is done once CSW and TAR stand.
+pub struct Task {
+    pub kind: Kind,
+    pub addr: u32,
+    pub word: u32,
+    pub last: u32,
+}
+
+pub struct Doing {
+    pub phase: Phase,
+    pub left: u32,
+    pub task: Task,
+}
+
+// An operation, its access and its transport call, in flight.
+pub struct Started {
+    pub doing: Doing,
+    pub launched: Launched,
+}
+
+pub enum Went {
+    Moving(Remembered, Started),
+    Finished(Remembered, Outcome),
+}
+
+fn minus(a: u32, b: u32) -> u32
+    ensures { λ r. ⌜ r ≡ a - b ⌝ }
+{
+    if a < b {
+        return 0;
+    }
+    a - b
+}
+
+// v at place i of the row; a place outside is dropped.
+fn place_word(row: &mut [u32], i: u32, v: u32)
+    ensures { λ _. ⌜ now (row .exit) ≡ set (now (row .entry)) i v ⌝ }
+{
+    let j = i as usize;
+    if j < row.len() {
+        row[j] = v;
+    }
+}
+
+// The word at place i of the row; a place outside reads 0.
+fn word_at(row: &[u32], i: u32) -> u32
+    ensures { λ r. ⌜ r ≡ getD (now (row .entry)) i 0 ⌝ }
+{
+    let j = i as usize;
+    if j < row.len() {
+        return row[j];
+    }
+    0
+}
+
+fn pull_on(t: Task, more: u32) -> Started
+    ensures { λ r. ⌜ ((k : Then) (m : Memory) → pull (t .last) more k m ≡ startedTree r k m) ⌝ }
+{
+    if more == 0 {
+        let x = direct(14, 0);
+        return Started { doing: Doing { phase: Phase::Last, left: 0, task: t }, launched: x };
+    }
+    let x = direct(15, 0);
+    Started { doing: Doing { phase: Phase::Pull, left: more, task: t }, launched: x }
+}
+
+fn push_on(t: Task, more: u32, row: &[u32]) -> Started
+    ensures { λ r. ⌜ ((k : Then) (m : Memory) → m .words ≡ now (row .entry) → push (t .last) more k m ≡ startedTree r k m) ⌝ }
+{
+    if more == 0 {
+        let x = direct(14, 0);
+        return Started { doing: Doing { phase: Phase::Unit, left: 0, task: t }, launched: x };
+    }
+    let v = word_at(row, minus(t.last, more - 1));
+    let x = direct(13, v);
+    Started { doing: Doing { phase: Phase::Push, left: more, task: t }, launched: x }
+}
+
+fn tar_on(r: Remembered, t: Task, n: u32) -> Started
+    ensures { λ x. ⌜ ((ws buf : List ℕ) (k : Then) → atTar t n k (memoryOf r ws buf) ≡ startedTree x k (memoryOf r ws buf)) ⌝ }
+{
+    let x = access_start(r, 5, 4, t.addr);
+    Started { doing: Doing { phase: Phase::Tar, left: n, task: t }, launched: x }
+}
+
+// The first data access of a task.
+fn data_on(r: Remembered, t: Task, n: u32, row: &[u32]) -> Went
+    ensures { λ x. ⌜ ((buf : List ℕ) (k : Then) → dataAt (t .kind) t n k (memoryOf r (now (row .entry)) buf) ≡ wentTree (memoryOf r (now (row .entry)) buf) (now (row .entry)) x k) ⌝ }
+{
+    let kind = t.kind;
+    match kind {
+        Kind::ReadWord => {
+            let x = access_start(r, 15, 12, 0);
+            Went::Moving(r, Started { doing: Doing { phase: Phase::Posted, left: n, task: t }, launched: x })
+        }
+        Kind::WriteWord => {
+            let x = access_start(r, 13, 12, t.word);
+            Went::Moving(r, Started { doing: Doing { phase: Phase::Sent, left: n, task: t }, launched: x })
+        }
+        Kind::ReadWords => {
+            if n == 0 {
+                return Went::Finished(r, Outcome::Value(0));
+            }
+            let x = access_start(r, 15, 12, 0);
+            Went::Moving(r, Started { doing: Doing { phase: Phase::First, left: n, task: t }, launched: x })
+        }
+        Kind::WriteWords => {
+            let v = word_at(row, minus(t.last, minus(n, 1)));
+            let x = access_start(r, 13, 12, v);
+            Went::Moving(r, Started { doing: Doing { phase: Phase::Push, left: n, task: t }, launched: x })
+        }
+    }
+}
+
+// What an operation does with the outcome of its access.
+pub fn op_after(r: Remembered, d: Doing, o: Outcome, row: &mut [u32]) -> Went
+    ensures { λ x. ⌜ ((buf : List ℕ) (k : Then) → opAfter d k (memoryOf r (now (row .entry)) buf) o ≡ wentTree (memoryOf r (now (row .entry)) buf) (now (row .exit)) x k) ⌝ }
+{
+    let f = Went::Finished(r, o);
+    let Outcome::Value(v) = o else {
+        return f;
+    };
+    let t = d.task;
+    let phase = d.phase;
+    match phase {
+        Phase::Only => f,
+        Phase::Unit => Went::Finished(r, Outcome::Value(0)),
+        Phase::Posted => {
+            let x = direct(14, 0);
+            Went::Moving(r, Started { doing: Doing { phase: Phase::Only, left: 0, task: t }, launched: x })
+        }
+        Phase::Csw => {
+            let known = Remembered { select: r.select, csw_valid: true, apsel: r.apsel };
+            let s = tar_on(known, t, d.left);
+            Went::Moving(known, s)
+        }
+        Phase::Tar => data_on(r, t, d.left, row),
+        Phase::Sent => {
+            let x = direct(14, 0);
+            Went::Moving(r, Started { doing: Doing { phase: Phase::Unit, left: 0, task: t }, launched: x })
+        }
+        Phase::First => {
+            let s = pull_on(t, minus(d.left, 1));
+            Went::Moving(r, s)
+        }
+        Phase::Pull => {
+            place_word(row, minus(t.last, d.left), v);
+            let s = pull_on(t, minus(d.left, 1));
+            Went::Moving(r, s)
+        }
+        Phase::Last => {
+            place_word(row, t.last, v);
+            Went::Finished(r, Outcome::Value(0))
+        }
+        Phase::Push => {
+            let s = push_on(t, minus(d.left, 1), row);
+            Went::Moving(r, s)
+        }
+    }
+}
+
+// A word or a run of words: CSW first, where it is not known.
+fn task_start(r: Remembered, t: Task, n: u32) -> Started
+    ensures { λ x. ⌜ ((ws buf : List ℕ) (k : Then) → ensuringTask t n k (memoryOf r ws buf) ≡ startedTree x k (memoryOf r ws buf)) ⌝ }
+{
+    if r.csw_valid {
+        return tar_on(r, t, n);
+    }
+    let x = access_start(r, 1, 0, 0x23000012);
+    Started { doing: Doing { phase: Phase::Csw, left: n, task: t }, launched: x }
+}
+
+// An access with no task behind it.
+fn lone(phase: Phase, x: Launched) -> Started
+    ensures { λ s. ⌜ s ≡ record { doing = record { phase = phase; left = 0; task = noTask }; launched = x } ⌝ }
+{
+    Started { doing: Doing { phase: phase, left: 0, task: Task { kind: Kind::ReadWord, addr: 0, word: 0, last: 0 } }, launched: x }
+}
+
+pub fn op_start(r: Remembered, op: Op) -> Started
+    ensures { λ x. ⌜ ((ws buf : List ℕ) (k : Then) → perform op k (memoryOf r ws buf) ≡ startedTree x k (memoryOf r ws buf)) ⌝ }
+{
+    match op {
+        Op::DpRead { addr } => lone(Phase::Only, direct(2 + addr % 16 / 4 * 4, 0)),
+        Op::DpWrite { addr, word } => lone(Phase::Unit, direct(addr % 16 / 4 * 4, word)),
+        Op::ApRead { addr } => lone(Phase::Posted, access_start(r, 3 + addr % 16 / 4 * 4, addr, 0)),
+        Op::ApWrite { addr, word } => lone(Phase::Unit, access_start(r, 1 + addr % 16 / 4 * 4, addr, word)),
+        Op::ReadWord { addr } => task_start(r, Task { kind: Kind::ReadWord, addr: addr, word: 0, last: 0 }, 0),
+        Op::WriteWord { addr, word } => task_start(r, Task { kind: Kind::WriteWord, addr: addr, word: word, last: 0 }, 0),
+        Op::ReadWords { addr, n, last } => task_start(r, Task { kind: Kind::ReadWords, addr: addr, word: 0, last: last }, n),
+        Op::WriteWords { addr, n, last } => task_start(r, Task { kind: Kind::WriteWords, addr: addr, word: 0, last: last }, n),
+        Op::Other(c) => lone(Phase::Only, direct_raw(c)),
+    }
+}

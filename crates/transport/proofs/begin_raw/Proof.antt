@@ -1,0 +1,11 @@
+use mathlib.Core.Path.{refl}
+use Rattle.transport.specs.Transfer.{raw}
+use Rattle.transport.proofs.begin_raw.Statement.{statement}
+use Rattle.transport.proofs.begin_raw.Tie as tie
+
+returns : tie.Need-returns
+unfolding raw
+returns c = λ e k. refl
+
+pub begin-raw-spec : {M : Type 1} → statement M
+begin-raw-spec = tie.close (tie.spec returns)

@@ -1,0 +1,4 @@
+pub mod Bytes
+pub mod Wire
+pub mod Transfer
+pub mod Flight

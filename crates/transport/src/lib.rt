@@ -1,0 +1,158 @@
+// Copyright 2026 Kenta Ida
+// SPDX-License-Identifier: Apache-2.0
+// Ported from arm-debug/src/lib.rs of ciniml/rust-dap.
+
+// Transport calls and their answers, what the engine remembers, and one transfer with its WAIT retries.
+ghost use mathlib.Core.Path.{_≡_};
+ghost use lib.ListN.{length};
+ghost use Rattle.transport.specs.declared.Outcome.{Outcome};
+ghost use Rattle.transport.specs.Bytes.{patternBits, patternBytes, padded, handed};
+ghost use Rattle.transport.specs.Wire.{Wire, Memory, follow};
+ghost use Rattle.transport.specs.Transfer.{transfer, raw};
+ghost use Rattle.transport.specs.Flight.{transferTree, wentTree};
+
+// What the engine remembers of the target. SELECT 0xFFFFFFFF means unknown.
+pub struct Remembered {
+    pub select: u32,
+    pub csw_valid: bool,
+    pub apsel: u8,
+}
+
+// The fixed rows of bits that `swj_sequence` sends.
+pub enum Pattern {
+    ResetHigh,
+    ResetIdle,
+    JtagToSwd,
+    SwdToDormant,
+    AlertHigh,
+    SelectionAlert,
+    AlertIdle,
+    SwdActivation,
+}
+
+// A transport call, as `DapTransport` has them.
+pub enum Call {
+    Transfer { request: u8, word: u32 },
+    Connect,
+    Sequence(Pattern),
+    Pins { output: u8, select: u8, wait_us: u32 },
+    WriteBits { bits: u8, word: u32 },
+    OutputEnable,
+}
+
+// What the transport says: Ok with a word, or one of `DapError`.
+pub enum Answer {
+    Good(u32),
+    SwdError(u8),
+    NotSupported,
+    Other,
+}
+
+// The Rust's errors, and the refusals that 01 adds: Range, Align, NoSession, TableEnd.
+pub enum ArmError {
+    Transfer(u8),
+    Wait,
+    NotSupported,
+    PowerUpTimeout,
+    CoreTimeout,
+    NoTarget,
+    Internal,
+    Range,
+    Align,
+    NoSession,
+    TableEnd,
+}
+
+pub enum Outcome {
+    Value(u32),
+    Failed(ArmError),
+}
+
+// The bytes of the fixed sequences, first byte first, with zeros up to 16.
+const RESET_HIGH: [u8; 16] = [255, 255, 255, 255, 255, 255, 255, 255, 0, 0, 0, 0, 0, 0, 0, 0];
+const JTAG_TO_SWD: [u8; 16] = [0x9E, 0xE7, 0, 0, 0, 0, 0, 0, 0, 0, 0, 0, 0, 0, 0, 0];
+const SWD_TO_DORMANT: [u8; 16] = [0xBC, 0xE3, 0, 0, 0, 0, 0, 0, 0, 0, 0, 0, 0, 0, 0, 0];
+const ALERT_HIGH: [u8; 16] = [255, 0, 0, 0, 0, 0, 0, 0, 0, 0, 0, 0, 0, 0, 0, 0];
+const SELECTION_ALERT: [u8; 16] = [0x92, 0xF3, 0x09, 0x62, 0x95, 0x2D, 0x85, 0x86, 0xE9, 0xAF, 0xDD, 0xE3, 0xA2, 0x0E, 0xBC, 0x19];
+const SWD_ACTIVATION: [u8; 16] = [0x1A, 0, 0, 0, 0, 0, 0, 0, 0, 0, 0, 0, 0, 0, 0, 0];
+
+// The bytes of a fixed sequence.
+pub fn pattern_bytes(p: Pattern) -> [u8; 16]
+    ensures { λ r. ⌜ r ≡ padded (patternBytes p) ⌝ }
+{
+    match p {
+        Pattern::ResetHigh => RESET_HIGH,
+        Pattern::ResetIdle => [0u8; 16],
+        Pattern::JtagToSwd => JTAG_TO_SWD,
+        Pattern::SwdToDormant => SWD_TO_DORMANT,
+        Pattern::AlertHigh => ALERT_HIGH,
+        Pattern::SelectionAlert => SELECTION_ALERT,
+        Pattern::AlertIdle => [0u8; 16],
+        Pattern::SwdActivation => SWD_ACTIVATION,
+    }
+}
+
+pub enum Mode {
+    Trying,
+    Aborting,
+    Raw,
+}
+
+// A transport call in flight. `left`: how many more tries after this one; `error`: what the call fails with after its ABORT.
+pub struct Transfer {
+    pub call: Call,
+    pub mode: Mode,
+    pub left: u32,
+    pub error: ArmError,
+}
+
+pub enum Went {
+    Again(Transfer),
+    Ended(Outcome),
+}
+
+// A transfer: WAIT repeats it, at most 64 times.
+pub fn begin(request: u8, word: u32) -> Transfer
+    ensures { λ r. ⌜ ((m : Memory) (k : Outcome → Wire) → transfer m request word k ≡ transferTree m r k) ⌝ }
+{
+    Transfer { call: Call::Transfer { request: request, word: word }, mode: Mode::Trying, left: 64, error: ArmError::Wait }
+}
+
+// A transport call that is made once, with no ABORT after an error.
+pub fn begin_raw(c: Call) -> Transfer
+    ensures { λ r. ⌜ ((m : Memory) (k : Outcome → Wire) → raw m c k ≡ transferTree m r k) ⌝ }
+{
+    Transfer { call: c, mode: Mode::Raw, left: 0, error: ArmError::Wait }
+}
+
+// What a transport call in flight does with an answer.
+pub fn transfer_step(t: Transfer, a: Answer) -> Went
+    ensures { λ r. ⌜ ((m : Memory) (k : Outcome → Wire) → follow (transferTree m t k) a ≡ wentTree m r k) ⌝ }
+{
+    let e = t.error;
+    let c = t.call;
+    let mode = t.mode;
+    match mode {
+        Mode::Aborting => Went::Ended(Outcome::Failed(e)),
+        Mode::Raw => match a {
+            Answer::Good(v) => Went::Ended(Outcome::Value(v)),
+            Answer::SwdError(ack) => Went::Ended(Outcome::Failed(ArmError::Transfer(ack))),
+            Answer::NotSupported => Went::Ended(Outcome::Failed(ArmError::NotSupported)),
+            Answer::Other => Went::Ended(Outcome::Failed(ArmError::Internal)),
+        },
+        Mode::Trying => match a {
+            Answer::Good(v) => Went::Ended(Outcome::Value(v)),
+            Answer::SwdError(ack) => {
+                if ack == 2 {
+                    if t.left == 0 {
+                        return Went::Ended(Outcome::Failed(ArmError::Wait));
+                    }
+                    return Went::Again(Transfer { call: c, mode: Mode::Trying, left: t.left - 1, error: e });
+                }
+                Went::Again(Transfer { call: c, mode: Mode::Aborting, left: t.left, error: ArmError::Transfer(ack) })
+            }
+            Answer::NotSupported => Went::Again(Transfer { call: c, mode: Mode::Aborting, left: t.left, error: ArmError::NotSupported }),
+            Answer::Other => Went::Again(Transfer { call: c, mode: Mode::Aborting, left: t.left, error: ArmError::Internal }),
+        },
+    }
+}
