@@ -4,13 +4,12 @@
 use arm_debug::{ArmDebug, ArmError, CallFrame};
 use rust_dap::*;
 use std::fmt::Write;
-use std::mem::transmute;
+use std::mem::{take, transmute};
 use std::panic::{catch_unwind, resume_unwind, AssertUnwindSafe};
 
-/// What a malformed script prints.
-pub const MALFORMED: &str = "13 00000000\n";
 pub const MAX_SCRIPT: usize = 65_536;
 const MAX_WORDS: usize = 8_192;
+const MALFORMED: &str = "13 00000000\n";
 
 /// An answer of the transport: code 0 Ok, 1 SwdError, 2 NotSupported, 3 other.
 #[derive(Clone, Copy)]
@@ -19,18 +18,9 @@ pub struct Answer {
     pub value: u32,
 }
 
-/// A transport call.
-pub enum Made<'a> {
-    Connect,
-    Sequence(usize, &'a [u8]),
-    Pins(u8, u8, u32),
-    Bits(usize, &'a [u8]),
-    OutputEnable,
-    Transfer(u8, u32),
-}
-
-/// Answers a transport call; none when the budget is used up.
-pub type Line<'a> = dyn FnMut(&Made) -> Option<Answer> + 'a;
+/// Answers a transport call, given a transfer's request and data; none when
+/// the budget is used up.
+pub type Line<'a> = dyn FnMut(Option<(u8, u32)>) -> Option<Answer> + 'a;
 
 /// Unwinds out of the Rust when the budget is used up.
 struct Spent;
@@ -43,20 +33,12 @@ struct Mock<'a, 'b> {
 }
 
 impl Mock<'_, '_> {
-    fn make(&mut self, made: Made) -> Result<u32, DapError> {
-        let Some(answer) = (self.line)(&made) else {
-            resume_unwind(Box::new(Spent)) // prints no panic message
+    fn make(&mut self, what: String, transfer: Option<(u8, u32)>) -> Result<u32, DapError> {
+        let Some(answer) = (self.line)(transfer) else {
+            resume_unwind(Box::new(Spent)) // unlike panic!, prints nothing
         };
         self.count += 1;
-        let log = &mut self.log;
-        let _ = match made {
-            Made::Connect => writeln!(log, "{} C", self.count),
-            Made::Sequence(bits, data) => writeln!(log, "{} Q {bits} {}", self.count, hex(data)),
-            Made::Pins(out, sel, wait) => writeln!(log, "{} P {out:02X} {sel:02X} {wait:08X}", self.count),
-            Made::Bits(bits, data) => writeln!(log, "{} B {bits} {}", self.count, hex(data)),
-            Made::OutputEnable => writeln!(log, "{} O", self.count),
-            Made::Transfer(request, data) => writeln!(log, "{} T {request:X} {data:08X}", self.count),
-        };
+        let _ = writeln!(self.log, "{} {what}", self.count);
         match answer.code {
             0 => Ok(answer.value),
             1 => Err(DapError::SwdError(answer.value as u8)),
@@ -72,23 +54,25 @@ impl DapTransport for Mock<'_, '_> {
     }
     fn connect(&mut self, port: ConnectPort, _: &DapConfig) -> Result<ActivePort, DapError> {
         assert!(port == ConnectPort::Swd);
-        self.make(Made::Connect).map(|_| ActivePort::Swd)
+        self.make("C".into(), None).map(|_| ActivePort::Swd)
     }
     fn swj_sequence(&mut self, _: &DapConfig, count: usize, data: &[u8]) -> Result<(), DapError> {
-        self.make(Made::Sequence(count, data)).map(|_| ())
+        self.make(format!("Q {count} {}", hex(data)), None).map(|_| ())
     }
-    fn swj_pins(&mut self, _: &DapConfig, out: SwjPins, sel: SwjPins, wait: u32) -> Result<SwjPins, DapError> {
-        self.make(Made::Pins(out.bits(), sel.bits(), wait)).map(|_| SwjPins::empty())
+    fn swj_pins(&mut self, _: &DapConfig, out: SwjPins, select: SwjPins, wait_us: u32) -> Result<SwjPins, DapError> {
+        let text = format!("P {:02X} {:02X} {wait_us:08X}", out.bits(), select.bits());
+        self.make(text, None).map(|_| SwjPins::empty())
     }
     fn swd_transfer(&mut self, _: &DapConfig, request: SwdRequest, data: u32) -> Result<u32, DapError> {
-        self.make(Made::Transfer(request.bits(), data))
+        let request = request.bits();
+        self.make(format!("T {request:X} {data:08X}"), Some((request, data)))
     }
     fn swd_write_bits(&mut self, _: &DapConfig, count: usize, data: &[u8]) -> Result<(), DapError> {
-        self.make(Made::Bits(count, data)).map(|_| ())
+        self.make(format!("B {count} {}", hex(data)), None).map(|_| ())
     }
     fn swd_output_enable(&mut self, enable: bool) -> Result<(), DapError> {
         assert!(enable);
-        self.make(Made::OutputEnable).map(|_| ())
+        self.make("O".into(), None).map(|_| ())
     }
 }
 
@@ -96,9 +80,9 @@ fn hex(bytes: &[u8]) -> String {
     bytes.iter().map(|b| format!("{b:02X}")).collect()
 }
 
-/// The big-endian word at a place of the arguments.
-fn word(args: &[u8], at: usize) -> u32 {
-    u32::from_be_bytes(args[at..at + 4].try_into().unwrap())
+/// The big-endian word at a place.
+fn word(bytes: &[u8], at: usize) -> u32 {
+    u32::from_be_bytes(bytes[at..at + 4].try_into().unwrap())
 }
 
 fn words(bytes: &[u8]) -> Vec<u32> {
@@ -110,7 +94,7 @@ fn length(args: &[u8]) -> usize {
     usize::from(args[4]) << 8 | usize::from(args[5])
 }
 
-/// Whether the call has a number and its arguments their length.
+/// Whether the number is a call's and its arguments have their length.
 fn fits(call: u8, args: &[u8]) -> bool {
     let n = args.len();
     match call {
@@ -132,40 +116,35 @@ fn fits(call: u8, args: &[u8]) -> bool {
     }
 }
 
-/// Bytes that calls 13, 14, 32 and 35 read or write.
-fn span(call: u8, args: &[u8]) -> usize {
-    match call {
-        13 => length(args),
-        14 => args.len() - 4,
-        32 | 35 => args.len() - 8,
-        _ => 0,
-    }
-}
-
 /// Align (9), then Range (8). The Rust has neither check: at the top of the
 /// address space its address overflows after the transfers, and a misaligned
 /// program call writes a misaligned TAR or never ends.
 fn refusal(call: u8, args: &[u8]) -> Option<u32> {
-    let bytes = span(call, args) as u64;
+    let bytes = match call {
+        13 => length(args),
+        14 => args.len() - 4,
+        32 | 35 => args.len() - 8,
+        _ => 0,
+    };
     if bytes == 0 {
-        return None;
+        return None; // no such check, or nothing to do
     }
     let address = word(args, 0);
     if matches!(call, 32 | 35) && address % 4 != 0 {
         return Some(9);
     }
-    (u64::from(address) + bytes >= 1 << 32).then_some(8)
+    (u64::from(address) + bytes as u64 >= 1 << 32).then_some(8)
 }
 
-/// What a call hands back beside its value. It outlives an unwinding.
+/// The caller's buffers. They outlive an unwinding.
 #[derive(Default)]
 struct Buffers {
     bytes: Vec<u8>,
     words: Vec<u32>,
 }
 
-/// Makes the call. CallFrame's one field is private; `transmute` checks that
-/// it has the size of eight words.
+/// Makes the call. CallFrame's one field is private; `transmute` makes sure
+/// that it has the size of eight words.
 fn invoke(e: &mut ArmDebug<Mock>, call: u8, a: &[u8], out: &mut Buffers) -> Result<u32, ArmError> {
     let four = |at| [word(a, at), word(a, at + 4), word(a, at + 8), word(a, at + 12)];
     let yes = |b: bool| b as u32;
@@ -217,7 +196,8 @@ fn invoke(e: &mut ArmDebug<Mock>, call: u8, a: &[u8], out: &mut Buffers) -> Resu
     }
 }
 
-/// Result number and value. TableEnd (12) is beyond every script.
+/// Result number and value. The Rust has no TableEnd (12): it looks on for
+/// ever, and a script's budget ends before that.
 fn ending(result: Result<u32, ArmError>) -> (u32, u32) {
     match result {
         Ok(value) => (0, value),
@@ -248,15 +228,11 @@ pub fn run(call: u8, args: &[u8], line: &mut Line) -> String {
             Err(payload) => resume_unwind(payload),
         },
     };
-    let mut text = std::mem::take(&mut engine.transport().log);
+    let mut text = take(&mut engine.transport().log);
     let _ = writeln!(text, "{number} {value:08X}");
     if matches!(call, 11 | 13) || (call == 23 && number == 0) {
-        text.push('D');
-        let data: String = out.words.iter().map(|w| format!("{w:08X}")).collect();
-        let data = data + &hex(&out.bytes);
-        text.push_str(if data.is_empty() { "" } else { " " });
-        text.push_str(&data);
-        text.push('\n');
+        let words: String = out.words.iter().map(|w| format!("{w:08X}")).collect();
+        let _ = writeln!(text, "{}", format!("D {words}{}", hex(&out.bytes)).trim_end());
     }
     text
 }
@@ -307,13 +283,7 @@ pub fn expected(bytes: &[u8]) -> String {
     run(script.call, script.args, &mut |_| answers.next())
 }
 
-/// Adds an item to a batch: a 4-byte length and its bytes.
-pub fn pack(batch: &mut Vec<u8>, item: &[u8]) {
-    batch.extend((item.len() as u32).to_be_bytes());
-    batch.extend(item);
-}
-
-/// The items of a batch.
+/// The items of a batch, each a 4-byte length and its bytes.
 pub fn unpack(mut batch: &[u8]) -> Vec<&[u8]> {
     let mut items = Vec::new();
     while !batch.is_empty() {

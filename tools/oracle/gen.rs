@@ -1,12 +1,15 @@
 //! Makes scripts for the comparison; equal options give equal scripts.
 //! Usage: gen --calls 1-14 --count N --seed S --out FILE [--bytes LIMIT]
-//! With a limit the choice is a sample for keeping: every base run and
-//! malformed script that is not long, then short ones until the limit.
+//! Two thirds come from lists (runs to the edges, with every budget and fault,
+//! and malformed scripts), the rest is random. With a limit the lists are not
+//! mixed, and what is long is left out.
 
-use driver::{Answer, Made};
-use std::ops::RangeInclusive;
+use driver::Answer;
+use std::collections::HashSet;
+use std::mem::replace;
 
-type Calls = RangeInclusive<u8>;
+type Calls = std::ops::RangeInclusive<u8>;
+type Script = Vec<u8>;
 
 /// SplitMix64.
 struct Rng(u64);
@@ -21,6 +24,9 @@ impl Rng {
     fn word(&mut self) -> u32 {
         self.next() as u32
     }
+    fn bytes(&mut self, n: usize) -> Vec<u8> {
+        (0..n).map(|_| self.next() as u8).collect()
+    }
     fn below(&mut self, n: usize) -> usize {
         (self.next() % n as u64) as usize
     }
@@ -34,23 +40,21 @@ impl Rng {
     }
 }
 
-const fn ok(value: u32) -> Answer {
-    Answer { code: 0, value }
+const fn answer(code: u8, value: u32) -> Answer {
+    Answer { code, value }
 }
-const fn ack(value: u32) -> Answer {
-    Answer { code: 1, value }
-}
-const WAIT: Answer = ack(2);
-const FAULT: Answer = ack(4);
-const NOT_SUPPORTED: Answer = Answer { code: 2, value: 0 };
-const OTHER: Answer = Answer { code: 3, value: 0xFFFF_FFFF };
+const OK: Answer = answer(0, 7);
+const WAIT: Answer = answer(1, 2);
+const FAULT: Answer = answer(1, 4);
+const NOT_SUPPORTED: Answer = answer(2, 0);
+const OTHER: Answer = answer(3, 0xFFFF_FFFF);
 
 /// Answers put into a run from one place on.
 fn faults() -> Vec<Vec<Answer>> {
     let mut list: Vec<_> = [1, 64, 65].map(|n| vec![WAIT; n]).into();
-    list.extend([0, 1, 4, 7, 255].map(|a| vec![ack(a)]));
-    list.extend([NOT_SUPPORTED, OTHER].map(|a| vec![a]));
-    list.extend([WAIT, NOT_SUPPORTED].map(|abort| vec![FAULT, abort]));
+    list.extend([0, 1, 4, 7, 255].map(|ack| vec![answer(1, ack)]));
+    list.extend([vec![NOT_SUPPORTED], vec![OTHER]]);
+    list.extend([vec![FAULT, WAIT], vec![FAULT, OTHER]]); // the second meets the ABORT
     list.push([vec![WAIT; 64], vec![FAULT]].concat());
     list
 }
@@ -59,11 +63,10 @@ fn faults() -> Vec<Vec<Answer>> {
 struct Target {
     rng: Rng,
     dpidr: u32,
-    /// CTRL/STAT reads still to come before the power-up acks.
+    /// CTRL/STAT reads that come before the power-up acks.
     owed: u32,
-    /// What the call looks for: a ROM function's code or a breakpoint.
+    /// A ROM function's code or a breakpoint that the call looks for.
     wanted: u32,
-    select: u32,
     tar: u32,
     buffer: u32,
 }
@@ -71,64 +74,51 @@ struct Target {
 impl Target {
     fn new(seed: u64, case: &Case) -> Self {
         let mut rng = Rng(seed);
-        let (dpidr, owed) = (rng.pick(&[0x2BA0_1477, 0x0BC1_2477, 0x6BA0_2477]), rng.below(3) as u32);
+        let owed = rng.below(3) as u32;
         let wanted = match case.args[..] {
-            [a, b] => u32::from(a) | u32::from(b) << 8,
+            [a, b] => u32::from_be_bytes([0, 0, b, a]),
             [a, b, c, d, ..] => u32::from_be_bytes([a, b, c, d]),
             _ => 0,
         };
-        Target { rng, dpidr, owed, wanted, select: 0, tar: 0, buffer: 0 }
+        Target { rng, dpidr: 0x2BA0_1477, owed, wanted, tar: 0, buffer: 0 }
     }
 
-    fn answer(&mut self, made: &Made) -> Answer {
-        let &Made::Transfer(request, data) = made else {
-            return ok(self.rng.word());
-        };
-        ok(match request {
-            0x2 => self.dpidr,
-            0x6 if self.owed > 0 => {
+    fn answer(&mut self, transfer: Option<(u8, u32)>) -> Answer {
+        let value = match transfer {
+            Some((0x2, _)) => self.dpidr,
+            Some((0x6, _)) if self.owed > 0 => {
                 self.owed -= 1;
                 self.rng.pick(&[0, 0x5000_0000, 0x7000_0000, 0xD000_0000])
             }
-            0x6 => 0xF000_0000,
-            0x8 => std::mem::replace(&mut self.select, data),
-            0xE => self.buffer,
-            0x5 => std::mem::replace(&mut self.tar, data),
-            0x3 | 0x7 | 0xB | 0xF => {
-                let value = self.register(request & 0xC);
-                std::mem::replace(&mut self.buffer, value)
+            Some((0x6, _)) => 0xF000_0000,
+            Some((0x5, tar)) => replace(&mut self.tar, tar),
+            Some((0xB, _)) => replace(&mut self.buffer, self.rng.pick(&[0, 0, 1])), // erasing
+            Some((0xF, _)) => {
+                let word = self.memory();
+                self.tar = self.tar.wrapping_add(4);
+                replace(&mut self.buffer, word)
             }
+            Some((0xE, _)) => self.buffer,
             _ => self.rng.word(),
-        })
+        };
+        answer(0, value)
     }
 
-    fn register(&mut self, offset: u8) -> u32 {
-        match (self.select >> 24, self.select as u8 & 0xF0 | offset) {
-            (0, 0x0C) => {
-                let at = self.tar;
-                self.tar = at.wrapping_add(4);
-                self.memory(at)
-            }
-            (1 | 2, 0x08) => self.rng.pick(&[0, 0, 1]), // erase all: busy
-            (1, 0xFC) => self.rng.pick(&[0x0288_0000, 0x0288_0000, 0x1288_0000]),
-            _ => self.rng.word(),
-        }
-    }
-
-    fn memory(&mut self, at: u32) -> u32 {
+    /// The word at TAR. Nordic's own AP is read with TAR never written.
+    fn memory(&mut self) -> u32 {
         let w = self.wanted;
-        match at {
-            0x14 => self.rng.pick(&[0x0094_0100, 0x0102, 0xFFFD, 0x0101]),
+        match self.tar {
+            0..4 => self.rng.pick(&[0x0288_0000, 0x0288_0001, 1]),
+            0x14 => self.rng.pick(&[0x0094_0100, 0x0102, 0xFFFD, 0x0101]), // ROM table
             0x100..=0x2_0000 => {
                 let mut half = || self.rng.pick(&[w & 0xFFFF, 0x4142, 0x4241, 0x4344, 0]);
                 half() | half() << 16
             }
             0xE000_EDF0 => self.rng.pick(&[0, 1 << 16, 1 << 17, 3 << 16, 3 << 16]), // DHCSR
-            0xE000_2000 => self.rng.pick(&[0x20, 0x40, 0x60, 0x1000_0040, 0x1000_0080, 0x1010, 0]), // FP_CTRL
+            0xE000_2000 => self.rng.pick(&[0x20, 0x40, 0x1000_0040, 0x1000_0080, 0x1010, 0]), // FP_CTRL
             0xE000_2008..=0xE000_2204 => {
                 let half = if w & 2 != 0 { 0x8000_0001 } else { 0x4000_0001 };
-                let held = [half | w & 0x1FFF_FFFC, w | 1];
-                self.rng.pick(&[held[0], held[1], 0, 0x4000_1001, 0x4000_2001, 0x4000_3000])
+                self.rng.pick(&[half | w & 0x1FFF_FFFC, w | 1, 0, 0x4000_1001, 0x4000_2001, 0x4000_3000])
             }
             0x4001_E400 | 0x4004_B400 => self.rng.pick(&[0, 1, 1, 3]), // flash ready
             _ => self.rng.word(),
@@ -144,40 +134,37 @@ struct Case {
 
 impl Case {
     /// `first` is the address or the small first argument, `n` a length.
-    fn new(call: u8, first: u32, n: usize, polls: u32, rng: &mut Rng) -> Self {
+    fn new(call: u8, (first, n, polls): (u32, usize, u32), rng: &mut Rng) -> Self {
         let head = first.to_be_bytes().to_vec();
-        let some = |k: usize, rng: &mut Rng| (0..k).map(|_| rng.next() as u8).collect::<Vec<u8>>();
         let polls = polls.to_be_bytes().to_vec();
         let args = match call {
             2 | 3 | 15..=19 | 29 | 33 => vec![],
             6 | 7 | 20 => vec![first as u8],
-            8 | 21 => [vec![first as u8], some(4, rng)].concat(),
-            10 => [head, some(4, rng)].concat(),
+            8 | 21 => [vec![first as u8], rng.bytes(4)].concat(),
+            10 => [head, rng.bytes(4)].concat(),
             11 | 13 => [head, (n as u16).to_be_bytes().to_vec()].concat(),
-            12 => [head, some(4 * n, rng)].concat(),
-            14 => [head, some(n, rng)].concat(),
+            12 => [head, rng.bytes(4 * n)].concat(),
+            14 => [head, rng.bytes(n)].concat(),
             22 => (first as u16).to_be_bytes().to_vec(),
-            23 => [head, some(24, rng)].concat(),
-            24 => [some(32, rng), polls].concat(),
-            25 => [head, some(24, rng), polls].concat(),
+            23 => [head, rng.bytes(24)].concat(),
+            24 => [rng.bytes(32), polls].concat(),
+            25 => [head, rng.bytes(24), polls].concat(),
             30 | 34 => polls,
             31 => [head, polls].concat(),
-            32 | 35 => [head, polls, some(4 * n, rng)].concat(),
+            32 | 35 => [head, polls, rng.bytes(4 * n)].concat(),
             _ => head,
         };
         Case { call, args }
     }
 
-    /// Arguments from everywhere, mostly short.
-    fn random(call: u8, rng: &mut Rng) -> Self {
-        let base = rng.pick(&[0x2000_0000, 0x2000_0400, 0x3F0, 0xFFFF_FFF0, 0xE000_EDF0, 0]);
+    /// A call with arguments from everywhere, mostly short.
+    fn random(calls: &Calls, rng: &mut Rng) -> Self {
+        let near = rng.pick(&[0, 0x3F0, 0x2000_0000, 0x2000_03F0, 0xFFFF_FFF0]) + rng.below(16) as u32;
         let any = rng.word();
-        let near = base + rng.below(16) as u32;
         let first = rng.pick(&[any, near, near, near & !3, near & !3]);
-        let long = rng.below(300);
-        let n = if rng.below(6) == 0 { long } else { rng.below(12) };
+        let n = rng.below(300) >> rng.pick(&[0, 4, 5, 5, 6, 7]);
         let polls = rng.pick(&[0, 1, 2, 5, 100, 0xFFFF_FFFF]);
-        Case::new(call, first, n, polls, rng)
+        Case::new(calls.start() + rng.below(calls.len()) as u8, (first, n, polls), rng)
     }
 
     fn most_answers(&self) -> usize {
@@ -185,20 +172,19 @@ impl Case {
     }
 
     /// The answers of a run: those of the plan, else the target's.
-    fn record(&self, mut target: Target, plan: &dyn Fn(usize) -> Option<Answer>) -> Vec<Answer> {
+    fn record(&self, mut target: Target, plan: impl Fn(usize) -> Option<Answer>) -> Vec<Answer> {
         let mut answers = Vec::new();
-        driver::run(self.call, &self.args, &mut |made| {
+        driver::run(self.call, &self.args, &mut |transfer| {
             if answers.len() == self.most_answers() {
                 return None;
             }
-            let given = plan(answers.len()).unwrap_or_else(|| target.answer(made));
-            answers.push(given);
-            Some(given)
+            answers.push(plan(answers.len()).unwrap_or_else(|| target.answer(transfer)));
+            answers.last().copied()
         });
         answers
     }
 
-    fn script(&self, answers: &[Answer]) -> Vec<u8> {
+    fn script(&self, answers: &[Answer]) -> Script {
         let mut out = vec![1];
         out.extend((1 + self.args.len() as u16).to_be_bytes());
         out.push(self.call);
@@ -211,87 +197,79 @@ impl Case {
     }
 }
 
-/// First argument, length and polls of the runs that go to the edges. The
-/// first of them meets every fault at every place.
+/// First argument, length and polls of the runs that go to the edges. The first
+/// of each call meets every fault at every place, the others at one.
 fn edges(call: u8) -> Vec<(u32, usize, u32)> {
-    let firsts = |list: &[u32]| list.iter().map(|&f| (f, 0, 3)).collect();
+    let firsts = |list: &[u32]| list.iter().map(|&first| (first, 0, 3)).collect();
+    let spans = |list: &[(u32, usize)]| list.iter().map(|&(first, n)| (first, n, 3)).collect();
     match call {
         1 | 5 => firsts(&[0x0100_2927, 0x1100_2927, 0, 0xFFFF_FFFF]),
         4 => firsts(&[100, 0, 0xFFFF_FFFF]),
         6 => firsts(&[0, 1, 255]),
         7 | 8 => firsts(&[0x0C, 0, 3, 4, 0x1B, 0xF4, 0xFC, 0xFF]),
         9 | 10 => firsts(&[0x2000_0000, 0x2000_03FC, 0x2000_0001, 0xFFFF_FFFC, 0xFFFF_FFFF, 0]),
-        11 | 12 => [(0x2000_0000, 3), (0, 0), (0x2000_03FC, 1), (0x2000_03FC, 2), (0xFFFF_FFFC, 2)]
-            .into_iter()
-            .chain([(0x2000_0102, 2), (0x2000_0000, 64), (0x2000_0000, 65), (0x2000_0000, 300)])
-            .map(|(a, n)| (a, n, 0))
-            .collect(),
-        13 | 14 => memory_edges(),
+        11 | 12 => {
+            let long = [64, 65, 300].map(|n| (0x2000_0000, n));
+            let short = [(0x2000_0000, 3), (0, 0), (0x2000_03FC, 2), (0xFFFF_FFFC, 2), (0x2000_0102, 1)];
+            spans(&[&short[..], &long].concat())
+        }
+        13 | 14 => {
+            let mut list = vec![(0x2000_03FB, 15), (0x2000_0003, 6), (0x2000_03FC, 8), (0x2000_0201, 1100)];
+            list.extend((0..4).flat_map(|a| (0..=9).map(move |n| (0x2000_0400 + a, n))));
+            list.extend([256, 257, 260, 1020, 1024, 1028].map(|n| (0x2000_0000, n)));
+            list.extend((0..4).flat_map(|a| (0..=4).map(move |n| (0xFFFF_FFFC + a, n))));
+            list.extend([15, 16, 17].map(|n| (0xFFFF_FFF0, n)));
+            spans(&list)
+        }
         20 | 21 => firsts(&[16, 0, 15, 255]),
         22 => firsts(&[0x4946, 0x5245, 0, 0xFFFF]),
-        23 => firsts(&[0x2001, 0xFFFF_FFFF]),
+        23 | 31 => firsts(&[0x2001, 0x1FFF, 0xFFFF_FFFF]),
         24 | 25 | 30 | 34 => [2, 1, 0, 5, 0xFFFF_FFFF].map(|polls| (0x2001, 0, polls)).into(),
         26..=28 => firsts(&[0x102, 0x100, 0x1FFF_FFFE, 0x2000_0000, 0x2000_0101, 0xFFFF_FFFF]),
-        31 => [(0x1234, 3), (0xFFFF_FFFF, 1), (0, 0)].map(|(a, polls)| (a, 0, polls)).into(),
-        32 | 35 => [(0x3F8, 4, 3), (0, 0, 0), (0x3FD, 0, 1), (0x3FD, 1, 1), (0x3FE, 1, 1), (0, 1, 0)]
-            .into_iter()
-            .chain([(0xFFFF_FFFC, 1, 1), (0xFFFF_FFFD, 1, 1), (0xFFFF_FFF8, 1, 5), (0x100, 300, 9)])
-            .collect(),
+        32 | 35 => {
+            let refused = [(0x3FD, 1), (0x3FE, 1), (0xFFFF_FFFC, 1), (0xFFFF_FFFD, 1), (0xFFFF_FFF8, 2)];
+            let made = [(0x3F8, 4), (0x3FD, 0), (0xFFFF_FFF8, 1), (0x100, 300)];
+            spans(&[&made[..], &refused].concat())
+        }
         _ => vec![(0, 0, 0)],
     }
 }
 
-/// Runs of bytes across words, run limits and the end of the address space.
-fn memory_edges() -> Vec<(u32, usize, u32)> {
-    let mut list = vec![(0x2000_03FB, 15), (0x2000_0003, 6), (0x2000_03FC, 4), (0x2000_03FC, 8)];
-    list.extend((0..4).flat_map(|a| (0..=9).map(move |n| (0x2000_0400 + a, n))));
-    list.extend([256, 257, 260, 1020, 1024, 1028, 1100].map(|n| (0x2000_0000, n)));
-    list.extend([(0x2000_03FD, 300), (0x2000_0201, 1100), (0x2000_0300, 512)]);
-    list.extend((0..4).flat_map(|a| (0..=4).map(move |n| (0xFFFF_FFFC + a, n))));
-    list.extend([(0xFFFF_FFF0, 15), (0xFFFF_FFF0, 16), (0xFFFF_FFF0, 17), (0xFFFF_FC00, 1023)]);
-    list.into_iter().map(|(a, n)| (a, n, 0)).collect()
-}
-
-/// Connects to targets that do not answer, or take long to power up.
-fn slow_targets(calls: &Calls, rng: &mut Rng) -> Vec<Vec<u8>> {
+/// The listing of document 01, and connects to targets that do not answer or
+/// take long to power up.
+fn known(calls: &Calls, rng: &mut Rng) -> Vec<Script> {
     let mut out = Vec::new();
+    if calls.contains(&9) {
+        let case = Case::new(9, (0x2000_0000, 0, 0), rng);
+        out.push(case.script(&[OK, OK, OK, OK, answer(0, 0x1234_5678)]));
+    }
     for call in [1, 2, 3, 5].into_iter().filter(|c| calls.contains(c)) {
-        let case = Case::new(call, 0x0100_2927, 0, 0, rng);
-        let mut add = |dpidr, owed| {
+        let case = Case::new(call, (0x0100_2927, 0, 0), rng);
+        for (dpidr, owed) in [(0, 0), (0xFFFF_FFFF, 0), (1, 7), (0xFFFF_FFFE, 1023), (2, 1024)] {
             let target = Target { dpidr, owed, ..Target::new(1, &case) };
-            out.push(case.script(&case.record(target, &|_| None)));
-        };
-        [0, 0xFFFF_FFFF, 1, 0xFFFF_FFFE].into_iter().for_each(|dpidr| add(dpidr, 0));
-        [0, 1, 7, 1023, 1024].into_iter().for_each(|owed| add(0x2BA0_1477, owed));
+            out.push(case.script(&case.record(target, |_| None)));
+        }
     }
     out
 }
 
-/// Places of a run where faults are put: all of them, or six.
-fn places(length: usize, all: bool, rng: &mut Rng) -> Vec<usize> {
-    if all || length <= 6 {
-        (0..length).collect()
-    } else {
-        (0..6).map(|_| rng.below(length)).collect()
-    }
-}
-
 /// Base runs, and the same runs with each budget and each fault.
-fn runs(calls: &Calls, rng: &mut Rng) -> (Vec<Vec<u8>>, Vec<Vec<u8>>) {
-    let (mut bases, mut others) = (slow_targets(calls, rng), Vec::new());
+fn runs(calls: &Calls, rng: &mut Rng) -> (Vec<Script>, Vec<Script>) {
+    let (mut bases, mut others) = (known(calls, rng), Vec::new());
     for call in calls.clone() {
-        for (k, (first, n, polls)) in edges(call).into_iter().enumerate() {
-            let case = Case::new(call, first, n, polls, rng);
+        for (k, edge) in edges(call).into_iter().enumerate() {
+            let case = Case::new(call, edge, rng);
             let seed = rng.next();
-            let base = case.record(Target::new(seed, &case), &|_| None);
+            let base = case.record(Target::new(seed, &case), |_| None);
             bases.push(case.script(&base));
-            others.push(case.script(&[&base[..], &[OTHER, ok(0)]].concat()));
-            for at in places(base.len(), k == 0 || base.len() <= 12, rng) {
+            others.push(case.script(&[&base[..], &[OTHER, OK]].concat()));
+            let one = rng.below(base.len().max(1));
+            for at in (0..base.len()).filter(|&at| k == 0 || at == one) {
                 others.push(case.script(&base[..at]));
                 others.push(case.script(&[&base[..at], &[FAULT]].concat()));
                 for fault in faults() {
                     let plan = |i: usize| fault.get(i.wrapping_sub(at)).copied();
-                    others.push(case.script(&case.record(Target::new(seed, &case), &plan)));
+                    others.push(case.script(&case.record(Target::new(seed, &case), plan)));
                 }
             }
         }
@@ -301,36 +279,36 @@ fn runs(calls: &Calls, rng: &mut Rng) -> (Vec<Vec<u8>>, Vec<Vec<u8>>) {
 
 /// An answer of any kind, mostly Ok.
 fn any_answer(rng: &mut Rng) -> Answer {
-    let value = rng.pick(&[0, 1, 3 << 16, 0xFFFF_FFFF, 0xF000_0000]) ^ rng.word() >> rng.below(32);
-    let code = rng.pick(&[0, 0, 0, 0, 0, 0, 0, 0, 1, 1, 1, 2, 3]);
-    if code == 1 { ack(rng.pick(&[0, 1, 2, 2, 2, 4, 4, 8, 255])) } else { Answer { code, value } }
+    match rng.below(12) {
+        0..=2 => answer(1, rng.pick(&[0, 1, 2, 2, 2, 4, 4, 8, 255])),
+        3 => rng.pick(&[NOT_SUPPORTED, OTHER]),
+        _ => answer(0, rng.pick(&[0, 3 << 16, 0xFFFF_FFFF, 0xF000_0000]) ^ rng.word() >> rng.below(32)),
+    }
 }
 
-/// A run with up to three faults at random places and any budget.
-fn random_run(calls: &Calls, rng: &mut Rng) -> Vec<u8> {
-    let call = calls.start() + rng.below(calls.len()) as u8;
-    let case = Case::random(call, rng);
+/// A run with up to three faults, or random answers, and any budget.
+fn random_run(calls: &Calls, rng: &mut Rng) -> Script {
+    let case = Case::random(calls, rng);
     let seed = rng.next();
-    let base = case.record(Target::new(seed, &case), &|_| None);
-    if rng.below(6) == 0 {
-        let many = rng.below(40);
-        return case.script(&(0..many).map(|_| any_answer(rng)).collect::<Vec<_>>());
-    }
-    let reach = base.len().min(200) + 4;
-    let put: Vec<_> = (0..rng.below(4)).map(|_| (rng.below(reach), rng.below(faults().len()))).collect();
-    let faults = faults();
-    let plan = |i: usize| put.iter().find_map(|&(at, f)| faults[f].get(i.wrapping_sub(at)).copied());
-    let mut answers = case.record(Target::new(seed, &case), &plan);
+    let mut answers = if rng.below(6) == 0 {
+        (0..rng.below(40)).map(|_| any_answer(rng)).collect()
+    } else {
+        let length = case.record(Target::new(seed, &case), |_| None).len();
+        let faults = faults();
+        let puts: Vec<_> = (0..rng.below(4)).map(|_| (rng.below(length + 4), rng.below(faults.len()))).collect();
+        let plan = |i: usize| puts.iter().find_map(|&(at, f)| faults[f].get(i.wrapping_sub(at)).copied());
+        case.record(Target::new(seed, &case), plan)
+    };
     match rng.below(4) {
         0 => answers.truncate(rng.below(answers.len() + 1)),
-        1 => answers.extend((0..rng.below(3)).map(|_| any_answer(rng))),
+        1 => answers.push(any_answer(rng)),
         _ => {}
     }
     case.script(&answers)
 }
 
-/// A run with some bytes changed, cut off or added.
-fn damaged(calls: &Calls, rng: &mut Rng) -> Vec<u8> {
+/// A run with some byte changed, or bytes cut off or added.
+fn damaged(calls: &Calls, rng: &mut Rng) -> Script {
     let mut script = random_run(calls, rng);
     let at = rng.below(script.len());
     match rng.below(5) {
@@ -343,81 +321,68 @@ fn damaged(calls: &Calls, rng: &mut Rng) -> Vec<u8> {
     script
 }
 
-/// One script for each way to break a rule of the format, and some that look
-/// broken and are not.
-fn malformed(calls: &Calls, rng: &mut Rng) -> Vec<Vec<u8>> {
-    let case = Case::new(*calls.start(), 1, 0, 0, rng);
-    let good = case.script(&[ok(1), WAIT]);
-    let mut out: Vec<Vec<u8>> = vec![vec![], vec![1], vec![1, 0], vec![1, 0, 0], vec![1, 0, 1]];
+/// Scripts that break each rule of the format, and some that only just don't.
+fn malformed(calls: &Calls, rng: &mut Rng) -> Vec<Script> {
+    let case = Case::new(*calls.start(), (1, 0, 0), rng);
+    let good = case.script(&[OK, WAIT]);
+    let mut out: Vec<Script> = (0..good.len()).map(|cut| good[..cut].to_vec()).collect();
+    out.extend([vec![1, 0, 0], vec![1, 0, 0, 0, 5, 0, 0, 0, 0, 0]]);
     out.extend([0, 2, 49, 255].map(|version| [&[version], &good[1..]].concat()));
-    out.extend((0..good.len()).map(|cut| good[..cut].to_vec()));
-    let tails: [&[u8]; 7] = [&[0], &[1], &[0, 0], &[0, 1], &[0, 5], &[0, 5, 0, 0, 0, 0], &[255, 255, 0]];
+    let tails: [&[u8]; 6] = [&[0], &[0, 0], &[0, 1, 0], &[0, 4, 0, 0, 0, 0], &[0, 6, 0, 0, 0, 0, 0, 0], &[255, 255, 0]];
     out.extend(tails.map(|tail| [&good, tail].concat()));
-    let records: [&[u8]; 12] = [
-        &[0, 1, 0], &[0, 4, 0, 0, 0, 0], &[0, 6, 0, 0, 0, 0, 0, 0], &[0, 5, 4, 0, 0, 0, 0],
-        &[0, 5, 255, 0, 0, 0, 0], &[0, 5, 1, 0, 0, 1, 0], &[0, 5, 1, 255, 255, 255, 255],
-        &[0, 5, 1, 1, 0, 0, 0], &[0, 5, 1, 0, 1, 0, 4], &[0, 5, 1, 0, 0, 0, 255],
-        &[0, 5, 2, 255, 255, 255, 255], &[0, 5, 3, 0, 0, 1, 0],
-    ];
-    out.extend(records.map(|record| [&good, record].concat()));
-    for call in [0, 36, 37, 99, 127, 128, 200, 255] {
-        out.extend([0, 1, 4, 6, 8].map(|n| Case { call, args: vec![0; n] }.script(&[ok(0)])));
+    for (code, value) in [(4, 0), (255, 0), (1, 256), (1, 0x0100_0004), (1, 255), (2, 256), (3, 0xFFFF_FFFF)] {
+        out.push(case.script(&[answer(code, value)]));
+        out.push(case.script(&[&[OK; 30][..], &[answer(code, value)]].concat()));
+    }
+    for call in [0, 36, 37, 127, 128, 255] {
+        out.extend([0, 1, 4, 6, 8].map(|n| Case { call, args: vec![0; n] }.script(&[OK])));
     }
     for call in calls.clone() {
-        let args = Case::new(call, 0x2000_0000, 1, 1, rng).args;
-        let lengths = [0, 1, 2, 3, 4, 5, 6, 7, 8, 9, args.len() + 1, args.len() + 4];
-        let sized = |n: usize| args.iter().copied().cycle().chain([0; 9]).take(n).collect();
-        out.extend(lengths.map(|n| Case { call, args: if args.is_empty() { vec![0; n] } else { sized(n) } }.script(&[ok(0); 6])));
+        let right = Case::new(call, (0x2000_0000, 1, 1), rng).args.len();
+        let wrong = (0..=9).chain([right + 1, right + 4]);
+        out.extend(wrong.map(|n| Case { call, args: vec![0; n] }.script(&[OK; 6])));
     }
     if calls.contains(&11) {
-        out.extend([8192, 8193, 65_535].map(|n| Case::new(11, 0, n, 0, rng).script(&[ok(0); 4])));
+        out.extend([8192, 8193, 65_535].map(|n| Case::new(11, (0, n, 0), rng).script(&[OK; 4])));
     }
-    if calls.contains(&8) {
-        let full = Case::new(8, 0, 0, 0, rng); // 65,536 bytes exactly
-        let script = full.script(&vec![ok(7); full.most_answers()]);
-        out.push([&script[..], &[0]].concat());
-        out.push(full.script(&vec![ok(7); full.most_answers() + 1]));
-        out.push(script);
+    for call in [8, 13, 21].into_iter().filter(|c| calls.contains(c)) {
+        out.push(Case::new(call, (0, 1, 0), rng).script(&[OK; 9361])); // 65,536 bytes; 13: one more
     }
     out
 }
 
-/// Whether a later call number stands in a script that is well formed.
-fn beyond(calls: &Calls, script: &[u8]) -> bool {
-    driver::parse(script).is_some_and(|s| !calls.contains(&s.call))
+/// Keeps each script that, with its text, takes at most a tenth of the bytes left.
+fn keep_small(list: &mut Vec<Script>, mut left: usize) {
+    list.retain(|script| {
+        let size = 8 + script.len() + driver::expected(script).len();
+        let keep = size <= left / 10;
+        left -= if keep { size } else { 0 };
+        keep
+    });
 }
 
-/// Two thirds from the lists, the rest random.
-fn fresh(calls: &Calls, count: usize, rng: &mut Rng) -> Vec<Vec<u8>> {
-    let (mut list, others) = runs(calls, rng);
-    list.extend(others);
-    list.extend(malformed(calls, rng));
-    rng.shuffle(&mut list);
+fn choose(calls: &Calls, count: usize, limit: Option<u64>, rng: &mut Rng) -> Vec<Script> {
+    let mut list = malformed(calls, rng);
+    let (bases, mut others) = runs(calls, rng);
+    println!("lists: {} of the format, {} base runs, {} with budgets and faults", list.len(), bases.len(), others.len());
+    rng.shuffle(&mut others);
+    list.extend(bases.into_iter().chain(others));
+    match limit {
+        Some(bytes) => keep_small(&mut list, bytes as usize),
+        None => rng.shuffle(&mut list),
+    }
+    let mut seen = HashSet::new();
+    list.retain(|script| seen.insert(script.clone()));
     list.truncate(count - count / 3);
     while list.len() < count {
         let script = if rng.below(8) == 0 { damaged(calls, rng) } else { random_run(calls, rng) };
-        if !beyond(calls, &script) {
+        // A damaged call number can be that of a call which is not chosen.
+        let chosen = driver::parse(&script).is_none_or(|s| calls.contains(&s.call));
+        if chosen && seen.insert(script.clone()) {
             list.push(script);
         }
     }
     list
-}
-
-/// A sample of at most `limit` bytes, scripts and texts together.
-fn sample(calls: &Calls, count: usize, limit: usize, rng: &mut Rng) -> Vec<Vec<u8>> {
-    let (mut first, mut list) = runs(calls, rng);
-    first.extend(malformed(calls, rng));
-    list.extend((0..count).map(|_| random_run(calls, rng)));
-    list.retain(|script| script.len() < 300);
-    rng.shuffle(&mut list);
-    let mut left = limit;
-    let fits = |script: &Vec<u8>| {
-        let size = 8 + script.len() + driver::expected(script).len();
-        let fits = size <= left.min(70_000);
-        left -= if fits { size } else { 0 };
-        fits
-    };
-    first.into_iter().chain(list).filter(fits).take(count).collect()
 }
 
 fn main() {
@@ -425,15 +390,14 @@ fn main() {
     let option = |name: &str| args.iter().position(|a| a == name).map(|i| args[i + 1].clone());
     let number = |name: &str| option(name).map(|n| n.parse::<u64>().expect("not a number"));
     let range = option("--calls").expect("--calls FIRST-LAST");
-    let (low, high) = range.split_once('-').unwrap_or((&range, &range));
-    let calls = low.parse().unwrap()..=high.parse().unwrap();
+    let (first, last) = range.split_once('-').expect("--calls FIRST-LAST");
+    let calls = first.parse().unwrap()..=last.parse().unwrap();
     let count = number("--count").expect("--count N") as usize;
     let mut rng = Rng(number("--seed").unwrap_or(1));
-    let scripts = match number("--bytes") {
-        Some(limit) => sample(&calls, count, limit as usize, &mut rng),
-        None => fresh(&calls, count, &mut rng),
-    };
     let mut batch = Vec::new();
-    scripts.iter().for_each(|s| driver::pack(&mut batch, s));
+    for script in choose(&calls, count, number("--bytes"), &mut rng) {
+        batch.extend((script.len() as u32).to_be_bytes());
+        batch.extend(script);
+    }
     std::fs::write(option("--out").expect("--out FILE"), batch).expect("cannot write");
 }

@@ -1,27 +1,21 @@
 //! `oracle` prints what `dapscript` must print for the script on standard input.
-//! `oracle --batch IN OUT` does so for each script of a batch file.
-//! `oracle --vectors IN OUT` writes each script together with its text.
+//! `oracle --batch IN OUT` writes the text of each script of a batch file, its
+//! 4-byte length before it. `oracle --vectors IN OUT` writes for each script
+//! both lengths, the script and its text.
 
 use std::io::{self, Read, Write};
 use std::{env, fs};
 
-fn batch(scripts: &[u8]) -> Vec<u8> {
+fn texts(batch: &[u8], with_scripts: bool) -> Vec<u8> {
     let mut out = Vec::new();
-    for script in driver::unpack(scripts) {
-        driver::pack(&mut out, driver::expected(script).as_bytes());
-    }
-    out
-}
-
-/// For each script: 4-byte script length, 4-byte text length, script, text.
-fn vectors(scripts: &[u8]) -> Vec<u8> {
-    let mut out = Vec::new();
-    for script in driver::unpack(scripts) {
+    for script in driver::unpack(batch) {
         let text = driver::expected(script);
-        out.extend((script.len() as u32).to_be_bytes());
+        let script = if with_scripts { script } else { &[] };
+        if with_scripts {
+            out.extend((script.len() as u32).to_be_bytes());
+        }
         out.extend((text.len() as u32).to_be_bytes());
-        out.extend(script);
-        out.extend(text.as_bytes());
+        out.extend([script, text.as_bytes()].concat());
     }
     out
 }
@@ -34,8 +28,8 @@ fn main() -> io::Result<()> {
             io::stdin().read_to_end(&mut script)?;
             io::stdout().write_all(driver::expected(&script).as_bytes())
         }
-        ["--batch", input, output] => fs::write(output, batch(&fs::read(input)?)),
-        ["--vectors", input, output] => fs::write(output, vectors(&fs::read(input)?)),
+        ["--batch", input, output] => fs::write(output, texts(&fs::read(input)?, false)),
+        ["--vectors", input, output] => fs::write(output, texts(&fs::read(input)?, true)),
         _ => Err(io::Error::other("usage: oracle [--batch IN OUT | --vectors IN OUT]")),
     }
 }

@@ -7,8 +7,6 @@ use std::process::{Command, ExitCode, Stdio};
 use std::sync::atomic::{AtomicUsize, Ordering};
 use std::thread;
 
-const AT_A_TIME: usize = 2;
-
 /// The program's standard output for a script handed over in a file.
 fn printed(program: &str, script: &[u8], file: &str) -> Vec<u8> {
     fs::write(file, script).expect("cannot write the script");
@@ -44,21 +42,18 @@ fn main() -> ExitCode {
     let pairs: Vec<_> = scripts.into_iter().zip(expected).collect();
 
     let next = AtomicUsize::new(0);
-    let differ: Vec<usize> = thread::scope(|s| {
-        let start = |k| {
-            let (pairs, next) = (&pairs, &next);
-            s.spawn(move || work(program, pairs, next, &format!("{folder}/input{k}")))
-        };
-        let threads: Vec<_> = (0..AT_A_TIME).map(start).collect();
-        threads.into_iter().flat_map(|t| t.join().unwrap()).collect()
+    let half = |k: u8| work(program, &pairs, &next, &format!("{folder}/input{k}"));
+    let mut differ = thread::scope(|s| {
+        let other = s.spawn(|| half(1));
+        [half(0), other.join().unwrap()].concat()
     });
+    differ.sort();
 
-    if let Some(&first) = differ.iter().min() {
+    if let Some(&first) = differ.first() {
         let (script, expected) = pairs[first];
-        let keep = |name, bytes: &[u8]| fs::write(format!("{folder}/{name}"), bytes).unwrap();
-        keep("script", script);
-        keep("expected", expected);
-        keep("printed", &printed(program, script, &format!("{folder}/script")));
+        fs::write(format!("{folder}/expected"), expected).unwrap();
+        let again = printed(program, script, &format!("{folder}/script"));
+        fs::write(format!("{folder}/printed"), again).unwrap();
         println!("script {first} differs first; see {folder}/script, expected and printed");
     }
     let (all, bad) = (pairs.len(), differ.len());

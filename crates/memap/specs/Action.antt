@@ -20,7 +20,6 @@ onValue f k m (Value v) = f v k m
 onValue f k m (Failed e) = k m (Failed e)
 
 infixr 1 _>>=_ _>>_
-
 abbrev pub _>>=_ : Action → (ℕ → Action) → Action
 _>>=_ p f k m = p (onValue f k) m
 

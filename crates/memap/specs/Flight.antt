@@ -12,7 +12,7 @@ use Rattle.transport.specs.declared.ArmError.{ArmError}
 use Rattle.transport.specs.declared.Outcome.{Outcome}
 use Rattle.transport.specs.declared.Outcome.the-variants.{Value, Failed}
 use Rattle.memap.specs.Action.{Then, Action, onValue, _>>=_, _>>_, return, cond, transferring, remembering, remember}
-use Rattle.memap.specs.Ports.{selected, cswKnown, apAccess, apWrite, apRead, dpRead, ensureCsw, CSW_DEFAULT, RDBUFF, TAR, DRW}
+use Rattle.memap.specs.Ports.{selected, cswKnown, apAccess, apWrite, apRead, dpRead, ensureCsw, CSW-DEFAULT, RDBUFF, TAR, DRW}
 use Rattle.memap.specs.Words.{flush, place, pull, push, pushAll, rowAt}
 use Rattle.memap.specs.declared.Reach.{Reach}
 use Rattle.memap.specs.declared.Launched.{Launched}
@@ -65,7 +65,7 @@ abbrev pub atTar : Task → ℕ → Action
 atTar t n = apWrite TAR (t .addr) >> dataAt (t .kind) t n
 
 abbrev pub ensuringTask : Task → ℕ → Action
-ensuringTask t n = ensureCsw CSW_DEFAULT >> atTar t n
+ensuringTask t n = ensureCsw CSW-DEFAULT >> atTar t n
 
 abbrev pub noTask : Task
 noTask = record { kind = K.ReadWord; addr = 0; word = 0; last = 0 }
@@ -115,13 +115,13 @@ less n = omega arith
 
 -- one word, at a count that the code takes down by one
 pub pull-more : (last l : ℕ) (k : Then) (m : Memory) → (l ≡ 0 → ⊥)
-  → pull last l k m ≡ transferring 0xF 0 (onValue (λ v. place (last - l) v >> pull last (l - 1)) k) m
+    → pull last l k m ≡ transferring 0xF 0 (onValue (λ v. place (last - l) v >> pull last (l - 1)) k) m
 unfolding pull
 pull-more last zero k m h = absurd (h refl)
 pull-more last (suc l) k m h = ap (λ (j : ℕ). transferring 0xF 0 (onValue (λ v. place (last - suc l) v >> pull last j) k) m) (less l)
 
 pub push-more : (last l : ℕ) (k : Then) (m : Memory) → (l ≡ 0 → ⊥)
-  → push last l k m ≡ transferring 0xD (rowAt (last - (l - 1)) m) (next (push last (l - 1)) k) m
+    → push last l k m ≡ transferring 0xD (rowAt (last - (l - 1)) m) (next (push last (l - 1)) k) m
 unfolding push
 push-more last zero k m h = absurd (h refl)
 push-more last (suc l) k m h = ap (λ (j : ℕ). transferring 0xD (rowAt (last - j) m) (next (push last j) k) m) (less l)

@@ -16,4 +16,4 @@ perform (O.ReadWord addr) = readWord addr
 perform (O.WriteWord addr word) = writeWord addr word
 perform (O.ReadWords addr n last) = readWords addr n last
 perform (O.WriteWords addr n last) = writeWords addr n last
-perform (O.Other c) k m = raw m c (k m)
+perform (O.Other c) = λ k m. raw m c (k m)

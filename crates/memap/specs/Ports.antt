@@ -7,8 +7,14 @@ use Rattle.transport.specs.declared.Remembered.{Remembered}
 use Rattle.memap.specs.Action.{Action, _>>=_, _>>_, return, cond, transferring, remember}
 
 -- the debug port's registers
-abbrev pub CTRL_STAT : ℕ
-CTRL_STAT = 0x4
+abbrev pub DPIDR : ℕ
+DPIDR = 0x0
+
+abbrev pub ABORT : ℕ
+ABORT = 0x0
+
+abbrev pub CTRL-STAT : ℕ
+CTRL-STAT = 0x4
 
 abbrev pub SELECT : ℕ
 SELECT = 0x8
@@ -27,8 +33,8 @@ abbrev pub DRW : ℕ
 DRW = 0xC
 
 -- words, TAR advancing by itself, and the bits that the Rust sets besides
-abbrev pub CSW_DEFAULT : ℕ
-CSW_DEFAULT = 0x23000012
+abbrev pub CSW-DEFAULT : ℕ
+CSW-DEFAULT = 0x23000012
 
 -- A2 and A3 of an address
 abbrev pub a32 : ℕ → ℕ
@@ -47,7 +53,7 @@ abbrev pub selectOf : Remembered → ℕ → ℕ
 selectOf r addr = r .apsel * 0x1000000 + addr / 16 * 16
 
 abbrev pub selected : ℕ → Remembered → Remembered
-selected s r = record { select = s; csw_valid = r .csw_valid; apsel = r .apsel }
+selected s r = record { select = s; csw = r .csw; apsel = r .apsel }
 
 abbrev pub selectApBank : ℕ → Action
 selectApBank addr k m = cond (eqb (selectOf (m .remembered) addr) (m .remembered .select)) (return 0) (do
@@ -72,9 +78,9 @@ apRead addr = do
   dpRead RDBUFF
 
 abbrev pub cswKnown : Remembered → Remembered
-cswKnown r = record { select = r .select; csw_valid = true; apsel = r .apsel }
+cswKnown r = record { select = r .select; csw = true; apsel = r .apsel }
 
 abbrev pub ensureCsw : ℕ → Action
-ensureCsw wanted k m = cond (m .remembered .csw_valid) (return 0) (do
+ensureCsw wanted k m = cond (m .remembered .csw) (return 0) (do
   apWrite CSW wanted
   remember cswKnown) k m

@@ -6,11 +6,11 @@ use lib.ListN.{set, getD}
 use Rattle.transport.specs.Wire.{Memory}
 use Rattle.transport.specs.declared.Outcome.the-variants.{Value}
 use Rattle.memap.specs.Action.{Action, _>>=_, _>>_, return, cond, transferring}
-use Rattle.memap.specs.Ports.{RDBUFF, TAR, DRW, CSW_DEFAULT, dpRead, apAccess, apWrite, apRead, ensureCsw}
+use Rattle.memap.specs.Ports.{RDBUFF, TAR, DRW, CSW-DEFAULT, dpRead, apAccess, apWrite, apRead, ensureCsw}
 
 abbrev pub readWord : ℕ → Action
 readWord addr = do
-  ensureCsw CSW_DEFAULT
+  ensureCsw CSW-DEFAULT
   apWrite TAR addr
   apRead DRW
 
@@ -22,7 +22,7 @@ flush = do
 
 abbrev pub writeWord : ℕ → ℕ → Action
 writeWord addr word = do
-  ensureCsw CSW_DEFAULT
+  ensureCsw CSW-DEFAULT
   apWrite TAR addr
   apWrite DRW word
   flush
@@ -46,7 +46,7 @@ pull last (suc more) = do
 
 abbrev pub readWords : ℕ → ℕ → ℕ → Action
 readWords addr n last = do
-  ensureCsw CSW_DEFAULT
+  ensureCsw CSW-DEFAULT
   apWrite TAR addr
   cond (eqb n 0) (return 0) (do
     apAccess 0xF DRW 0
@@ -58,7 +58,7 @@ rowAt i m = getD (m .words) i 0
 
 -- `more` words to go
 unfoldable pub push : ℕ → ℕ → Action
-push last zero = flush
+push last zero k m = flush k m
 push last (suc more) k m = (do
   transferring 0xD (rowAt (last - more) m)
   push last more) k m
@@ -71,6 +71,6 @@ pushAll last n k m = (do
 
 abbrev pub writeWords : ℕ → ℕ → ℕ → Action
 writeWords addr n last = do
-  ensureCsw CSW_DEFAULT
+  ensureCsw CSW-DEFAULT
   apWrite TAR addr
   pushAll last n

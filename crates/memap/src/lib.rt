@@ -10,10 +10,10 @@ ghost use lib.ListN.{set, getD};
 ghost use Rattle.transport.specs.Wire.{Memory};
 ghost use Rattle.transport.specs.Transfer.{transfer, raw};
 ghost use Rattle.memap.specs.Action.{Then};
-ghost use Rattle.memap.specs.Ports.{apAccess};
+ghost use Rattle.memap.specs.Ports.{apAccess, dpRead, RDBUFF};
 ghost use Rattle.memap.specs.Words.{pull, push};
 ghost use Rattle.memap.specs.Ops.{perform};
-ghost use Rattle.memap.specs.Flight.{memoryOf, reachAfter, launchedTree, reachedTree, dataAt, atTar, ensuringTask, noTask, opAfter, startedTree, wentTree};
+ghost use Rattle.memap.specs.Flight.{memoryOf, reachAfter, launchedTree, reachedTree, dataAt, atTar, ensuringTask, noTask, phaseAfter, opAfter, startedTree, wentTree};
 use transport::{Call, Outcome, Remembered, Transfer};
 
 // What follows an access's transfer: while `selecting`, the transfer `request` with `word`.
@@ -70,7 +70,7 @@ pub fn reach_after(r: Remembered, a: Reach, o: Outcome) -> Reached
         match o {
             Outcome::Value(_) => {
                 let d = direct(a.request, a.word);
-                return Reached::Going(Remembered { select: a.select, csw_valid: r.csw_valid, apsel: r.apsel }, d);
+                return Reached::Going(Remembered { select: a.select, csw: r.csw, apsel: r.apsel }, d);
             }
             Outcome::Failed(_) => {
                 return Reached::Over(r, o);
@@ -169,29 +169,38 @@ fn word_at(row: &[u32], i: u32) -> u32
     0
 }
 
+// A read of RDBUFF, in a phase with nothing left to count.
+fn rdbuff_on(t: Task, phase: Phase) -> Started
+    ensures { λ r. ⌜ ((k : Then) (m : Memory) → dpRead RDBUFF (phaseAfter phase t 0 k) m ≡ startedTree r k m) ⌝ }
+{
+    let x = direct(14, 0);
+    Started { doing: Doing { phase: phase, left: 0, task: t }, launched: x }
+}
+
+// The next access of a run of reads: DRW while `more` are to be asked for, and then RDBUFF.
 fn pull_on(t: Task, more: u32) -> Started
     ensures { λ r. ⌜ ((k : Then) (m : Memory) → pull (t .last) more k m ≡ startedTree r k m) ⌝ }
 {
     if more == 0 {
-        let x = direct(14, 0);
-        return Started { doing: Doing { phase: Phase::Last, left: 0, task: t }, launched: x };
+        return rdbuff_on(t, Phase::Last);
     }
     let x = direct(15, 0);
     Started { doing: Doing { phase: Phase::Pull, left: more, task: t }, launched: x }
 }
 
+// The next access of a run of writes: DRW while `more` words are to go, and then RDBUFF.
 fn push_on(t: Task, more: u32, row: &[u32]) -> Started
     ensures { λ r. ⌜ ((k : Then) (m : Memory) → m .words ≡ now (row .entry) → push (t .last) more k m ≡ startedTree r k m) ⌝ }
 {
     if more == 0 {
-        let x = direct(14, 0);
-        return Started { doing: Doing { phase: Phase::Unit, left: 0, task: t }, launched: x };
+        return rdbuff_on(t, Phase::Unit);
     }
     let v = word_at(row, minus(t.last, more - 1));
     let x = direct(13, v);
     Started { doing: Doing { phase: Phase::Push, left: more, task: t }, launched: x }
 }
 
+// TAR, and then the task's data.
 fn tar_on(r: Remembered, t: Task, n: u32) -> Started
     ensures { λ x. ⌜ ((ws buf : List ℕ) (k : Then) → atTar t n k (memoryOf r ws buf) ≡ startedTree x k (memoryOf r ws buf)) ⌝ }
 {
@@ -241,37 +250,23 @@ pub fn op_after(r: Remembered, d: Doing, o: Outcome, row: &mut [u32]) -> Went
     match phase {
         Phase::Only => f,
         Phase::Unit => Went::Finished(r, Outcome::Value(0)),
-        Phase::Posted => {
-            let x = direct(14, 0);
-            Went::Moving(r, Started { doing: Doing { phase: Phase::Only, left: 0, task: t }, launched: x })
-        }
+        Phase::Posted => Went::Moving(r, rdbuff_on(t, Phase::Only)),
         Phase::Csw => {
-            let known = Remembered { select: r.select, csw_valid: true, apsel: r.apsel };
-            let s = tar_on(known, t, d.left);
-            Went::Moving(known, s)
+            let known = Remembered { select: r.select, csw: true, apsel: r.apsel };
+            Went::Moving(known, tar_on(known, t, d.left))
         }
         Phase::Tar => data_on(r, t, d.left, row),
-        Phase::Sent => {
-            let x = direct(14, 0);
-            Went::Moving(r, Started { doing: Doing { phase: Phase::Unit, left: 0, task: t }, launched: x })
-        }
-        Phase::First => {
-            let s = pull_on(t, minus(d.left, 1));
-            Went::Moving(r, s)
-        }
+        Phase::Sent => Went::Moving(r, rdbuff_on(t, Phase::Unit)),
+        Phase::First => Went::Moving(r, pull_on(t, minus(d.left, 1))),
         Phase::Pull => {
             place_word(row, minus(t.last, d.left), v);
-            let s = pull_on(t, minus(d.left, 1));
-            Went::Moving(r, s)
+            Went::Moving(r, pull_on(t, minus(d.left, 1)))
         }
         Phase::Last => {
             place_word(row, t.last, v);
             Went::Finished(r, Outcome::Value(0))
         }
-        Phase::Push => {
-            let s = push_on(t, minus(d.left, 1), row);
-            Went::Moving(r, s)
-        }
+        Phase::Push => Went::Moving(r, push_on(t, minus(d.left, 1), row)),
     }
 }
 
@@ -279,7 +274,7 @@ pub fn op_after(r: Remembered, d: Doing, o: Outcome, row: &mut [u32]) -> Went
 fn task_start(r: Remembered, t: Task, n: u32) -> Started
     ensures { λ x. ⌜ ((ws buf : List ℕ) (k : Then) → ensuringTask t n k (memoryOf r ws buf) ≡ startedTree x k (memoryOf r ws buf)) ⌝ }
 {
-    if r.csw_valid {
+    if r.csw {
         return tar_on(r, t, n);
     }
     let x = access_start(r, 1, 0, 0x23000012);
@@ -297,14 +292,29 @@ pub fn op_start(r: Remembered, op: Op) -> Started
     ensures { λ x. ⌜ ((ws buf : List ℕ) (k : Then) → perform op k (memoryOf r ws buf) ≡ startedTree x k (memoryOf r ws buf)) ⌝ }
 {
     match op {
-        Op::DpRead { addr } => lone(Phase::Only, direct(2 + addr % 16 / 4 * 4, 0)),
-        Op::DpWrite { addr, word } => lone(Phase::Unit, direct(addr % 16 / 4 * 4, word)),
-        Op::ApRead { addr } => lone(Phase::Posted, access_start(r, 3 + addr % 16 / 4 * 4, addr, 0)),
-        Op::ApWrite { addr, word } => lone(Phase::Unit, access_start(r, 1 + addr % 16 / 4 * 4, addr, word)),
+        Op::DpRead { addr } => {
+            let x = direct(2 + addr % 16 / 4 * 4, 0);
+            lone(Phase::Only, x)
+        }
+        Op::DpWrite { addr, word } => {
+            let x = direct(addr % 16 / 4 * 4, word);
+            lone(Phase::Unit, x)
+        }
+        Op::ApRead { addr } => {
+            let x = access_start(r, 3 + addr % 16 / 4 * 4, addr, 0);
+            lone(Phase::Posted, x)
+        }
+        Op::ApWrite { addr, word } => {
+            let x = access_start(r, 1 + addr % 16 / 4 * 4, addr, word);
+            lone(Phase::Unit, x)
+        }
         Op::ReadWord { addr } => task_start(r, Task { kind: Kind::ReadWord, addr: addr, word: 0, last: 0 }, 0),
         Op::WriteWord { addr, word } => task_start(r, Task { kind: Kind::WriteWord, addr: addr, word: word, last: 0 }, 0),
         Op::ReadWords { addr, n, last } => task_start(r, Task { kind: Kind::ReadWords, addr: addr, word: 0, last: last }, n),
         Op::WriteWords { addr, n, last } => task_start(r, Task { kind: Kind::WriteWords, addr: addr, word: 0, last: last }, n),
-        Op::Other(c) => lone(Phase::Only, direct_raw(c)),
+        Op::Other(c) => {
+            let x = direct_raw(c);
+            lone(Phase::Only, x)
+        }
     }
 }

@@ -14,7 +14,7 @@ ghost use Rattle.transport.specs.Flight.{transferTree, wentTree};
 // What the engine remembers of the target. SELECT 0xFFFFFFFF means unknown.
 pub struct Remembered {
     pub select: u32,
-    pub csw_valid: bool,
+    pub csw: bool,
     pub apsel: u8,
 }
 

@@ -1,24 +1,11 @@
+-- Inside the row the read is `getD`. Outside it both are 0.
+use native.Mathlib.Omega.{arith}
+use lib.ListN.{List·getD-eq-default}
+use mathlib.Core.Path.{sym}
 use borrow.Author.Needs.{needs}
 use Rattle.memap.proofs.word_at.Statement.{statement}
 use Rattle.memap.proofs.word_at.Tie as tie
-use Rattle.memap.proofs.word_at.Reads as reads
-use Rattle.memap.proofs.word_at.Lts as lts
-
--- src/lib.rt:167:16
-mul-result : tie.Need-mul-result
-mul-result c = search needs
-
--- src/lib.rt:167:16
-shared-slice-read-result : tie.Need-shared-slice-read-result
-shared-slice-read-result c = search needs
-
--- src/lib.rt:167:9
-returns : tie.Need-returns
-returns c = search needs
-
--- src/lib.rt:162:1
-returns-2 : tie.Need-returns-2
-returns-2 c = ?
 
 pub word-at-spec : {M : Type 1} → statement M
-word-at-spec = tie.close (tie.spec mul-result shared-slice-read-result returns returns-2)
+word-at-spec = tie.close (tie.spec
+    (λ c. search needs) (λ c. search needs) (λ c. search needs) (λ c. sym (List·getD-eq-default (c .before .args .row .now) 0 (omega arith))))

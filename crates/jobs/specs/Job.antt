@@ -1,0 +1,80 @@
+-- A call as a job: operations, changes of what is kept, and an end; `exec` makes a tree of transport calls of it.
+-- Jobs chain in `do` blocks as the Rust's methods do: a value goes on to the next line, an error ends the call.
+-- Every call is of this one first-order language, so that a claim about all calls is one induction.
+use Prim.Native.Nat.{ℕ}
+use mathlib.Core.Bool.{Bool, true, false}
+use Rattle.transport.specs.Wire.{Wire, Memory, done}
+use Rattle.transport.specs.declared.Call.{Call}
+use Rattle.transport.specs.declared.ArmError.{ArmError}
+use Rattle.transport.specs.declared.Outcome.{Outcome}
+use Rattle.transport.specs.declared.Outcome.the-variants.{Value, Failed}
+use Rattle.memap.specs.Ops.{perform}
+use Rattle.memap.specs.declared.Op.{Op}
+use Rattle.memap.specs.declared.Op.the-variants as O
+use Rattle.jobs.specs.Change.{changed}
+use Rattle.jobs.specs.declared.Change.{Change}
+
+-- an operation goes on by its value or by its error
+pub data Job : Type 0 where
+  ends : Outcome → Job
+  op : Op → (ℕ → Job) → (ArmError → Job) → Job
+  keep : Change → Job → Job
+
+mutual
+  unfoldable pub exec : Job → Memory → Wire
+  exec (ends o) m = done m o
+  exec (op w good bad) m = perform w (resume good bad) m
+  exec (keep c j) m = exec j (changed c m)
+
+  abbrev pub resume : (ℕ → Job) → (ArmError → Job) → Memory → Outcome → Wire
+  resume good bad m (Value v) = exec (good v) m
+  resume good bad m (Failed e) = exec (bad e) m
+
+abbrev pub return : ℕ → Job
+return v = ends (Value v)
+
+abbrev pub fail : ArmError → Job
+fail e = ends (Failed e)
+
+infixr 1 _>>=_ _>>_
+
+abbrev pub _>>=_ : Job → (ℕ → Job) → Job
+_>>=_ (ends (Value v)) k = k v
+_>>=_ (ends (Failed e)) k = fail e
+_>>=_ (op w good bad) k = op w (λ v. good v >>= k) (λ e. bad e >>= k)
+_>>=_ (keep c j) k = keep c (j >>= k)
+
+abbrev pub _>>_ : Job → Job → Job
+_>>_ j k = j >>= (λ (_ : ℕ). k)
+
+abbrev pub cond : Bool → Job → Job → Job
+cond true a b = a
+cond false a b = b
+
+-- the operations and the changes, by the names of the Rust's methods
+abbrev pub just : Op → Job
+just w = op w return fail
+
+abbrev pub keeping : Change → Job
+keeping c = keep c (return 0)
+
+abbrev pub dpRead : ℕ → Job
+dpRead addr = just (O.DpRead addr)
+
+abbrev pub dpWrite : ℕ → ℕ → Job
+dpWrite addr word = just (O.DpWrite addr word)
+
+abbrev pub apRead : ℕ → Job
+apRead addr = just (O.ApRead addr)
+
+abbrev pub apWrite : ℕ → ℕ → Job
+apWrite addr word = just (O.ApWrite addr word)
+
+abbrev pub readWord : ℕ → Job
+readWord addr = just (O.ReadWord addr)
+
+abbrev pub writeWord : ℕ → ℕ → Job
+writeWord addr word = just (O.WriteWord addr word)
+
+abbrev pub transport : Call → Job
+transport c = just (O.Other c)

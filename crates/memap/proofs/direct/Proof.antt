@@ -1,0 +1,6 @@
+use borrow.Author.Needs.{needs}
+use Rattle.memap.proofs.direct.Statement.{statement}
+use Rattle.memap.proofs.direct.Tie as tie
+
+pub direct-spec : {M : Type 1} → statement M
+direct-spec = tie.close (tie.spec (λ c κs. search needs) (λ c. λ m k. c .begin .ensures m _))

@@ -1,0 +1,52 @@
+-- The operation makes the definition compute to its first access, which the callee starts.
+-- A word or a run of words is CSW, TAR and its data: the task that `task_start` ensures.
+use Rattle.memap.specs.Ops.{perform}
+use borrow.Author.Needs.{needs}
+use Rattle.memap.proofs.op_start.Statement.{statement}
+use Rattle.memap.proofs.op_start.Tie as tie
+
+returns : tie.Need-returns
+unfolding perform
+returns c = λ ws buf k. simp (c .before .before .before .op .given .1) (simp (c .lone .ensures) (c .before .direct .ensures _ _))
+
+returns-2 : tie.Need-returns-2
+unfolding perform
+returns-2 c = λ ws buf k. simp (c .before .before .before .op2 .given .1) (simp (c .lone2 .ensures) (c .before .direct2 .ensures _ _))
+
+returns-3 : tie.Need-returns-3
+unfolding perform
+returns-3 c = λ ws buf k. simp (c .before .before .before .op3 .given .1) (simp (c .lone3 .ensures) (c .before .access-start .ensures ws buf _))
+
+returns-4 : tie.Need-returns-4
+unfolding perform
+returns-4 c = λ ws buf k. simp (c .before .before .before .op4 .given .1) (simp (c .lone4 .ensures) (c .before .access-start2 .ensures ws buf _))
+
+returns-5 : tie.Need-returns-5
+unfolding perform
+returns-5 c = λ ws buf k. simp (c .before .before .op5 .given .1) (c .task-start .ensures ws buf k)
+
+returns-6 : tie.Need-returns-6
+unfolding perform
+returns-6 c = λ ws buf k. simp (c .before .before .op6 .given .1) (c .task-start2 .ensures ws buf k)
+
+returns-7 : tie.Need-returns-7
+unfolding perform
+returns-7 c = λ ws buf k. simp (c .before .before .op7 .given .1) (c .task-start3 .ensures ws buf k)
+
+returns-8 : tie.Need-returns-8
+unfolding perform
+returns-8 c = λ ws buf k. simp (c .before .before .op8 .given .1) (c .task-start4 .ensures ws buf k)
+
+returns-9 : tie.Need-returns-9
+unfolding perform
+returns-9 c = λ ws buf k. simp (c .before .before .before .op9 .given .1) (simp (c .lone5 .ensures) (c .before .direct-raw .ensures _ _))
+
+pub op-start-spec : {M : Type 1} → statement M
+op-start-spec =
+    tie.close (tie.spec
+    (λ c. search needs) (λ c. search needs) (λ c. search needs) (λ c κs. search needs) (λ c κs. search needs) (λ c. search needs) (λ c. search needs)
+    (λ c κs. search needs) (λ c κs. search needs) (λ c. search needs) (λ c. search needs) (λ c. search needs) (λ c κs. search needs)
+    (λ c κs. search needs) (λ c. search needs) (λ c. search needs) (λ c. search needs) (λ c κs. search needs) (λ c κs. search needs) (λ c. search needs)
+    (λ c κs. search needs) (λ c. search needs) (λ c κs. search needs) (λ c. search needs) (λ c κs. search needs) (λ c. search needs)
+    (λ c κs. search needs) (λ c. search needs) (λ c κs. search needs) (λ c κs. search needs) returns returns-2 returns-3 returns-4 returns-5 returns-6
+    returns-7 returns-8 returns-9)

@@ -1,0 +1,16 @@
+-- With none more the definition computes to the read of RDBUFF.
+-- Otherwise `pull-more` brings it to a read of DRW followed by what the phase Pull stands for.
+use Rattle.memap.specs.Flight.{pull-more}
+use Rattle.memap.specs.Words.{pull}
+use borrow.Author.Needs.{needs}
+use Rattle.memap.proofs.pull_on.Statement.{statement}
+use Rattle.memap.proofs.pull_on.Tie as tie
+
+returns : tie.Need-returns
+unfolding pull
+returns c = λ k m. simp (c .before .if1 .taken) (c .rdbuff-on .ensures k m)
+
+pub pull-on-spec : {M : Type 1} → statement M
+pull-on-spec = tie.close (tie.spec
+    (λ c κs. search needs) returns (λ c κs. search needs)
+    (λ c. λ k m. let a = c .before .before .args in simp (pull-more (a .t .last) (a .more) k m (c .before .if1 .left)) (c .direct .ensures m _)))

@@ -1,0 +1,13 @@
+#!/bin/sh
+# Makes crates/replay/data/vectors anew from the unchanged Rust.
+# Usage: tools/vectors.sh [SRC]
+set -eu
+calls=1-14
+count=1200
+bytes=900000
+seed=1
+cd "$(dirname "$0")/.."
+tools/oracle/build.sh "$@"
+target/oracle/gen --calls "$calls" --count "$count" --seed "$seed" --bytes "$bytes" \
+    --out target/oracle/scripts
+target/oracle/oracle --vectors target/oracle/scripts crates/replay/data/vectors
