@@ -89,13 +89,9 @@ opAfter d k m o = phaseAfter (d .phase) (d .task) (d .left) k m o
 abbrev pub startedTree : Started → Then → Memory → Wire
 startedTree s k m = launchedTree m (s .launched) (opAfter (s .doing) k)
 
--- m, where what is remembered and the row are as given
-abbrev pub beside : Memory → Remembered → List ℕ → Memory
-beside m r ws = record { remembered = r; words = ws; buf = m .buf }
-
-abbrev pub wentTree : Memory → List ℕ → Went → Then → Wire
-wentTree m ws (Moving r s) k = startedTree s k (beside m r ws)
-wentTree m ws (Finished r o) k = k (beside m r ws) o
+abbrev pub wentTree : List ℕ → List ℕ → Went → Then → Wire
+wentTree ws b (Moving r s) k = startedTree s k (memoryOf r ws b)
+wentTree ws b (Finished r o) k = k (memoryOf r ws b) o
 
 -- every phase hands an error on
 pub fails : (p : Phase) (t : Task) (l : ℕ) (k : Then) (m : Memory) (e : ArmError) → phaseAfter p t l k m (Failed e) ≡ k m (Failed e)

@@ -7,14 +7,14 @@ ghost use mathlib.Core.Path.{_≡_};
 ghost use mathlib.Core.List.{List};
 ghost use Prim.Native.Nat.{ℕ, _-_};
 ghost use lib.ListN.{set, getD};
-ghost use Rattle.transport.specs.Wire.{Memory};
+ghost use Rattle.transport.specs.Wire.{Memory, follow};
 ghost use Rattle.transport.specs.Transfer.{transfer, raw};
 ghost use Rattle.memap.specs.Action.{Then};
 ghost use Rattle.memap.specs.Ports.{apAccess, dpRead, RDBUFF};
 ghost use Rattle.memap.specs.Words.{pull, push};
 ghost use Rattle.memap.specs.Ops.{perform};
 ghost use Rattle.memap.specs.Flight.{memoryOf, reachAfter, launchedTree, reachedTree, dataAt, atTar, ensuringTask, noTask, phaseAfter, opAfter, startedTree, wentTree};
-use transport::{Call, Outcome, Remembered, Transfer};
+use transport::{Answer, Call, Outcome, Remembered, Transfer};
 
 // What follows an access's transfer: while `selecting`, the transfer `request` with `word`.
 pub struct Reach {
@@ -63,7 +63,7 @@ fn access_start(r: Remembered, request: u8, addr: u8, word: u32) -> Launched
 }
 
 // What an access does with the outcome of its transfer.
-pub fn reach_after(r: Remembered, a: Reach, o: Outcome) -> Reached
+fn reach_after(r: Remembered, a: Reach, o: Outcome) -> Reached
     ensures { λ x. ⌜ ((ws buf : List ℕ) (k : Then) → reachAfter a k (memoryOf r ws buf) o ≡ reachedTree (memoryOf r ws buf) x k) ⌝ }
 {
     if a.selecting {
@@ -210,7 +210,7 @@ fn tar_on(r: Remembered, t: Task, n: u32) -> Started
 
 // The first data access of a task.
 fn data_on(r: Remembered, t: Task, n: u32, row: &[u32]) -> Went
-    ensures { λ x. ⌜ ((buf : List ℕ) (k : Then) → dataAt (t .kind) t n k (memoryOf r (now (row .entry)) buf) ≡ wentTree (memoryOf r (now (row .entry)) buf) (now (row .entry)) x k) ⌝ }
+    ensures { λ x. ⌜ ((buf : List ℕ) (k : Then) → dataAt (t .kind) t n k (memoryOf r (now (row .entry)) buf) ≡ wentTree (now (row .entry)) buf x k) ⌝ }
 {
     let kind = t.kind;
     match kind {
@@ -238,8 +238,8 @@ fn data_on(r: Remembered, t: Task, n: u32, row: &[u32]) -> Went
 }
 
 // What an operation does with the outcome of its access.
-pub fn op_after(r: Remembered, d: Doing, o: Outcome, row: &mut [u32]) -> Went
-    ensures { λ x. ⌜ ((buf : List ℕ) (k : Then) → opAfter d k (memoryOf r (now (row .entry)) buf) o ≡ wentTree (memoryOf r (now (row .entry)) buf) (now (row .exit)) x k) ⌝ }
+fn op_after(r: Remembered, d: Doing, o: Outcome, row: &mut [u32]) -> Went
+    ensures { λ x. ⌜ ((buf : List ℕ) (k : Then) → opAfter d k (memoryOf r (now (row .entry)) buf) o ≡ wentTree (now (row .exit)) buf x k) ⌝ }
 {
     let f = Went::Finished(r, o);
     let Outcome::Value(v) = o else {
@@ -316,5 +316,22 @@ pub fn op_start(r: Remembered, op: Op) -> Started
             let x = direct_raw(c);
             lone(Phase::Only, x)
         }
+    }
+}
+
+// What an operation in flight does with an answer.
+pub fn op_step(r: Remembered, s: Started, a: Answer, row: &mut [u32]) -> Went
+    ensures { λ x. ⌜ ((buf : List ℕ) (k : Then) → follow (startedTree s k (memoryOf r (now (row .entry)) buf)) a ≡ wentTree (now (row .exit)) buf x k) ⌝ }
+{
+    let d = s.doing;
+    let l = s.launched;
+    let reach = l.reach;
+    let t = l.transfer;
+    match transport::transfer_step(t, a) {
+        transport::Went::Again(t2) => Went::Moving(r, Started { doing: d, launched: Launched { reach: reach, transfer: t2 } }),
+        transport::Went::Ended(o) => match reach_after(r, reach, o) {
+            Reached::Going(r2, l2) => Went::Moving(r2, Started { doing: d, launched: l2 }),
+            Reached::Over(r2, o2) => op_after(r2, d, o2, row),
+        },
     }
 }
