@@ -59,8 +59,8 @@ impl DapTransport for Mock<'_, '_> {
     fn swj_sequence(&mut self, _: &DapConfig, count: usize, data: &[u8]) -> Result<(), DapError> {
         self.make(format!("Q {count} {}", hex(data)), None).map(|_| ())
     }
-    fn swj_pins(&mut self, _: &DapConfig, out: SwjPins, select: SwjPins, wait_us: u32) -> Result<SwjPins, DapError> {
-        let text = format!("P {:02X} {:02X} {wait_us:08X}", out.bits(), select.bits());
+    fn swj_pins(&mut self, _: &DapConfig, out: SwjPins, select: SwjPins, us: u32) -> Result<SwjPins, DapError> {
+        let text = format!("P {:02X} {:02X} {us:08X}", out.bits(), select.bits());
         self.make(text, None).map(|_| SwjPins::empty())
     }
     fn swd_transfer(&mut self, _: &DapConfig, request: SwdRequest, data: u32) -> Result<u32, DapError> {

@@ -67,6 +67,8 @@ struct Target {
     owed: u32,
     /// A ROM function's code or a breakpoint that the call looks for.
     wanted: u32,
+    /// DHCSR always shows the core halted.
+    halted: bool,
     tar: u32,
     buffer: u32,
 }
@@ -74,13 +76,13 @@ struct Target {
 impl Target {
     fn new(seed: u64, case: &Case) -> Self {
         let mut rng = Rng(seed);
-        let owed = rng.below(3) as u32;
+        let (owed, halted) = (rng.below(3) as u32, rng.below(4) == 0);
         let wanted = match case.args[..] {
             [a, b] => u32::from_be_bytes([0, 0, b, a]),
             [a, b, c, d, ..] => u32::from_be_bytes([a, b, c, d]),
             _ => 0,
         };
-        Target { rng, dpidr: 0x2BA0_1477, owed, wanted, tar: 0, buffer: 0 }
+        Target { rng, dpidr: 0x2BA0_1477, owed, wanted, halted, tar: 0, buffer: 0 }
     }
 
     fn answer(&mut self, transfer: Option<(u8, u32)>) -> Answer {
@@ -111,14 +113,16 @@ impl Target {
             0..4 => self.rng.pick(&[0x0288_0000, 0x0288_0001, 1]),
             0x14 => self.rng.pick(&[0x0094_0100, 0x0102, 0xFFFD, 0x0101]), // ROM table
             0x100..=0x2_0000 => {
-                let mut half = || self.rng.pick(&[w & 0xFFFF, 0x4142, 0x4241, 0x4344, 0]);
+                let mut half = || self.rng.pick(&[w & 0xFFFF, 0x4142, 0x4344, 0, 0]);
                 half() | half() << 16
             }
+            0xE000_EDF0 if self.halted => 3 << 16,
             0xE000_EDF0 => self.rng.pick(&[0, 1 << 16, 1 << 17, 3 << 16, 3 << 16]), // DHCSR
             0xE000_2000 => self.rng.pick(&[0x20, 0x40, 0x1000_0040, 0x1000_0080, 0x1010, 0]), // FP_CTRL
             0xE000_2008..=0xE000_2204 => {
                 let half = if w & 2 != 0 { 0x8000_0001 } else { 0x4000_0001 };
-                self.rng.pick(&[half | w & 0x1FFF_FFFC, w | 1, 0, 0x4000_1001, 0x4000_2001, 0x4000_3000])
+                let held = self.rng.pick(&[half | w & 0x1FFF_FFFC, w | 1]);
+                self.rng.pick(&[held, 0, 0x4000_1001, 0x4000_2001, 0x4000_3000])
             }
             0x4001_E400 | 0x4004_B400 => self.rng.pick(&[0, 1, 1, 3]), // flash ready
             _ => self.rng.word(),
@@ -167,21 +171,23 @@ impl Case {
         Case::new(calls.start() + rng.below(calls.len()) as u8, (first, n, polls), rng)
     }
 
-    fn most_answers(&self) -> usize {
-        (driver::MAX_SCRIPT - 4 - self.args.len()) / 7
-    }
-
     /// The answers of a run: those of the plan, else the target's.
     fn record(&self, mut target: Target, plan: impl Fn(usize) -> Option<Answer>) -> Vec<Answer> {
         let mut answers = Vec::new();
+        let most = (driver::MAX_SCRIPT - 4 - self.args.len()) / 7;
         driver::run(self.call, &self.args, &mut |transfer| {
-            if answers.len() == self.most_answers() {
+            if answers.len() == most {
                 return None;
             }
             answers.push(plan(answers.len()).unwrap_or_else(|| target.answer(transfer)));
             answers.last().copied()
         });
         answers
+    }
+
+    /// The answers of a run without faults.
+    fn base(&self, seed: u64) -> Vec<Answer> {
+        self.record(Target::new(seed, self), |_| None)
     }
 
     fn script(&self, answers: &[Answer]) -> Script {
@@ -260,8 +266,12 @@ fn runs(calls: &Calls, rng: &mut Rng) -> (Vec<Script>, Vec<Script>) {
         for (k, edge) in edges(call).into_iter().enumerate() {
             let case = Case::new(call, edge, rng);
             let seed = rng.next();
-            let base = case.record(Target::new(seed, &case), |_| None);
+            let base = case.base(seed);
             bases.push(case.script(&base));
+            if call >= 15 {
+                // These depend on what the target holds.
+                bases.extend((1..=4).map(|k| case.script(&case.base(seed ^ k))));
+            }
             others.push(case.script(&[&base[..], &[OTHER, OK]].concat()));
             let one = rng.below(base.len().max(1));
             for at in (0..base.len()).filter(|&at| k == 0 || at == one) {
@@ -293,10 +303,11 @@ fn random_run(calls: &Calls, rng: &mut Rng) -> Script {
     let mut answers = if rng.below(6) == 0 {
         (0..rng.below(40)).map(|_| any_answer(rng)).collect()
     } else {
-        let length = case.record(Target::new(seed, &case), |_| None).len();
-        let faults = faults();
-        let puts: Vec<_> = (0..rng.below(4)).map(|_| (rng.below(length + 4), rng.below(faults.len()))).collect();
-        let plan = |i: usize| puts.iter().find_map(|&(at, f)| faults[f].get(i.wrapping_sub(at)).copied());
+        let (faults, reach) = (faults(), case.base(seed).len() + 4);
+        let mut put = || (rng.below(reach), &faults[rng.below(faults.len())]);
+        let puts = [put(), put(), put()];
+        let puts = &puts[..rng.below(4)];
+        let plan = |i: usize| puts.iter().find_map(|(at, fault)| fault.get(i.wrapping_sub(*at)).copied());
         case.record(Target::new(seed, &case), plan)
     };
     match rng.below(4) {
@@ -328,9 +339,10 @@ fn malformed(calls: &Calls, rng: &mut Rng) -> Vec<Script> {
     let mut out: Vec<Script> = (0..good.len()).map(|cut| good[..cut].to_vec()).collect();
     out.extend([vec![1, 0, 0], vec![1, 0, 0, 0, 5, 0, 0, 0, 0, 0]]);
     out.extend([0, 2, 49, 255].map(|version| [&[version], &good[1..]].concat()));
-    let tails: [&[u8]; 6] = [&[0], &[0, 0], &[0, 1, 0], &[0, 4, 0, 0, 0, 0], &[0, 6, 0, 0, 0, 0, 0, 0], &[255, 255, 0]];
-    out.extend(tails.map(|tail| [&good, tail].concat()));
-    for (code, value) in [(4, 0), (255, 0), (1, 256), (1, 0x0100_0004), (1, 255), (2, 256), (3, 0xFFFF_FFFF)] {
+    let short: [&[u8]; 4] = [&[0], &[0, 0], &[0, 1, 0], &[255, 255, 0]];
+    let near: [&[u8]; 2] = [&[0, 4, 0, 0, 0, 0], &[0, 6, 0, 0, 0, 0, 0, 0]];
+    out.extend(short.iter().chain(&near).map(|tail| [&good, *tail].concat()));
+    for (code, value) in [(4, 0), (255, 0), (1, 256), (1, 0x0100_0004), (1, 255), (2, 256), (3, 256)] {
         out.push(case.script(&[answer(code, value)]));
         out.push(case.script(&[&[OK; 30][..], &[answer(code, value)]].concat()));
     }
@@ -361,10 +373,12 @@ fn keep_small(list: &mut Vec<Script>, mut left: usize) {
     });
 }
 
+/// The scripts to write: from the lists, then random ones, none twice.
 fn choose(calls: &Calls, count: usize, limit: Option<u64>, rng: &mut Rng) -> Vec<Script> {
     let mut list = malformed(calls, rng);
     let (bases, mut others) = runs(calls, rng);
-    println!("lists: {} of the format, {} base runs, {} with budgets and faults", list.len(), bases.len(), others.len());
+    let lengths = (list.len(), bases.len(), others.len());
+    println!("lists (format, base runs, budgets and faults): {lengths:?}");
     rng.shuffle(&mut others);
     list.extend(bases.into_iter().chain(others));
     match limit {

@@ -59,7 +59,7 @@ pub trait DapTransport {
     fn capabilities(&self) -> DapCapabilities;
     fn connect(&mut self, port: ConnectPort, c: &DapConfig) -> Result<ActivePort, DapError>;
     fn swj_sequence(&mut self, c: &DapConfig, count: usize, data: &[u8]) -> Result<(), DapError>;
-    fn swj_pins(&mut self, c: &DapConfig, out: SwjPins, select: SwjPins, wait_us: u32) -> Result<SwjPins, DapError>;
+    fn swj_pins(&mut self, c: &DapConfig, out: SwjPins, select: SwjPins, us: u32) -> Result<SwjPins, DapError>;
     fn swd_transfer(&mut self, c: &DapConfig, request: SwdRequest, data: u32) -> Result<u32, DapError>;
     fn swd_write_bits(&mut self, c: &DapConfig, count: usize, data: &[u8]) -> Result<(), DapError>;
     fn swd_output_enable(&mut self, enable: bool) -> Result<(), DapError>;

@@ -1,0 +1,9 @@
+use borrow.Author.Needs.{needs}
+use Rattle.numbers.proofs.result_of.Statement.{statement}
+use Rattle.numbers.proofs.result_of.Tie as tie
+
+pub result-of-spec : {M : Type 1} → statement M
+result-of-spec =
+    tie.close (tie.spec
+    (λ c. search needs) (λ c. search needs) (λ c κs. search needs) (λ c. simp (c .before .o .given .1))
+    (λ c. simp (c .before .before .o2 .given .1) (simp (c .error-ending .ensures))))
