@@ -154,3 +154,11 @@ pub ended-at : (s : State) (ws b : List ℕ) (o : Outcome) (rest : List Answer) 
   → Reports p (record { count = i; ending = resultOf o; remembered = s .remembered }) ws b l₀ l
 ended-at s ws b o rest i l₀ l p al =
     reports-none i l₀ l p _ (ended o) _ ws b (subst (λ (q : Played). Along i l₀ l p q) (play-done _ o rest) al) refl refl refl
+
+-- a report over the words of the call's runs is one over the caller's words
+pub reports-ran : (own : Bool) (p : Played) (r : Ran) (ws words₀ words b l₀ l : List ℕ) → words ≡ pick own ws words₀
+  → Reports p r ws b l₀ l → RanAs own p r words₀ words b l₀ l
+reports-ran own p r ws words₀ words b l₀ l e h =
+    record { count = h .count; ending = h .ending; remembered = ap (λ (m : Memory). m .remembered) (h .memory);
+      lent = e ∙ ap (λ (m : Memory). pick own (m .words) words₀) (h .memory); buf = ap (λ (m : Memory). m .buf) (h .memory);
+      log = h .log; readable = h .readable }

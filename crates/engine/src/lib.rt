@@ -154,7 +154,7 @@ fn asked(r: Remembered, a: Asks, own: bool, ws: &mut [u32], buf: &mut [u8]) -> M
 }
 
 // One step over the words of the call's runs.
-fn moved(s: State, a: Answer, ws: &mut [u32], buf: &mut [u8]) -> Moved
+fn move_on(s: State, a: Answer, ws: &mut [u32], buf: &mut [u8]) -> Moved
     ensures { λ x. ⌜ Moves (follow (stateTree s (now (ws .entry)) (now (buf .entry))) a) x (s .own) (now (ws .exit)) (now (buf .exit)) ⌝ }
 {
     let r = s.remembered;
@@ -236,10 +236,10 @@ pub fn step(s: State, a: Answer, row: &mut [u32; 64], words: &mut [u32], buf: &m
     ensures { λ x. ⌜ Lent (s .own) (follow (stateTree s (pick (s .own) (now (words .entry)) (now (row .entry))) (now (buf .entry))) a) x (now (row .entry)) (now (words .entry)) (now (row .exit)) (now (words .exit)) (now (buf .exit)) ⌝ }
 {
     if s.own {
-        let m = moved(s, a, words, buf);
+        let m = move_on(s, a, words, buf);
         return numbered(m);
     }
-    let m = moved(s, a, row, buf);
+    let m = move_on(s, a, row, buf);
     numbered(m)
 }
 
@@ -279,7 +279,7 @@ fn run_on(start: Moved, budget: u32, answers: &[u64], ws: &mut [u32], buf: &mut 
                 numbers::note(log, i, c);
                 let j = i as usize;
                 let a = numbers::answer_of(answers[j]);
-                let m = moved(s, a, ws, buf);
+                let m = move_on(s, a, ws, buf);
                 let s2 = m.state;
                 let n2 = m.todo;
                 s = s2;

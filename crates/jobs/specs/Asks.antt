@@ -8,7 +8,7 @@ use Rattle.memap.specs.Action.{Then}
 use Rattle.memap.specs.Ops.{perform}
 use Rattle.memap.specs.declared.Op.{Op}
 use Rattle.jobs.specs.Change.{changed}
-use Rattle.jobs.specs.Job.{Job, ends, op, keep, exec, resume}
+use Rattle.jobs.specs.Job.{Job, ends, op, keep, exec, either}
 use Rattle.jobs.specs.declared.Change.{Change}
 use Rattle.jobs.specs.declared.Change.the-variants as C
 use Rattle.jobs.specs.declared.Next.{Next}
@@ -39,7 +39,7 @@ abbrev pub asks : Change → Next → (Outcome → Job) → Job
 asks c n k = keepSome c (nextJob n k)
 
 abbrev pub thenOf : (Outcome → Job) → Then
-thenOf k = resume (λ v. k (Value v)) (λ e. k (Failed e))
+thenOf k = either (λ v. exec (k (Value v))) (λ e. exec (k (Failed e)))
 
 pub then-is : (k : Outcome → Job) (m : Memory) (o : Outcome) → thenOf k m o ≡ exec (k o) m
 then-is k m (Value v) = refl

@@ -20,15 +20,14 @@ pub data Job : Type 0 where
   op : Op → (ℕ → Job) → (ArmError → Job) → Job
   keep : Change → Job → Job
 
-mutual
-  unfoldable pub exec : Job → Memory → Wire
-  exec (ends o) m = done m o
-  exec (op w good bad) m = perform w (resume good bad) m
-  exec (keep c j) m = exec j (changed c m)
+abbrev pub either : (ℕ → Memory → Wire) → (ArmError → Memory → Wire) → Memory → Outcome → Wire
+either good bad m (Value v) = good v m
+either good bad m (Failed e) = bad e m
 
-  abbrev pub resume : (ℕ → Job) → (ArmError → Job) → Memory → Outcome → Wire
-  resume good bad m (Value v) = exec (good v) m
-  resume good bad m (Failed e) = exec (bad e) m
+unfoldable pub exec : Job → Memory → Wire
+exec (ends o) m = done m o
+exec (op w good bad) m = perform w (either (λ v. exec (good v)) (λ e. exec (bad e))) m
+exec (keep c j) m = exec j (changed c m)
 
 abbrev pub return : ℕ → Job
 return v = ends (Value v)

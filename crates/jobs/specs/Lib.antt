@@ -1,4 +1,5 @@
 pub mod Bytes
+pub mod ByteLaws
 pub mod Change
 pub mod Job
 pub mod Asks

@@ -1,0 +1,9 @@
+use borrow.Author.Needs.{needs}
+use Rattle.engine.proofs.call_start.Statement.{statement}
+use Rattle.engine.proofs.call_start.Tie as tie
+
+pub call-start-spec : {M : Type 1} → statement M
+call-start-spec =
+    tie.close (tie.spec
+    (λ c. search needs) (λ c κs. search needs) (λ c. search needs) (λ c κs. search needs) (λ c. simp (c .before .before .c .given .1) (c .start .ensures))
+    (λ c. simp (c .before .before .c2 .given .1) (c .start2 .ensures)))
