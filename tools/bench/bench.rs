@@ -1,0 +1,133 @@
+//! Runs the unchanged Rust engine and the port over the same instant transport,
+//! and checks that both made the same transport calls.
+//! Usage: bench CALL rust|port REPEATS   prints transport calls and nanoseconds a transport call
+
+use arm_debug::ArmDebug;
+use rust_dap::*;
+use std::time::Instant;
+
+extern "C" {
+    fn bench_read_mem(addr: u32, budget: u32, a: *const u64, an: usize, b: *mut u8, bn: usize, l: *mut u64, ln: usize) -> u32;
+    fn bench_write_mem(addr: u32, budget: u32, a: *const u64, an: usize, b: *mut u8, bn: usize, l: *mut u64, ln: usize) -> u32;
+    fn bench_read_word(addr: u32, budget: u32, a: *const u64, an: usize, b: *mut u8, bn: usize, l: *mut u64, ln: usize) -> u32;
+    fn bench_connect_swd(budget: u32, a: *const u64, an: usize, b: *mut u8, bn: usize, l: *mut u64, ln: usize) -> u32;
+}
+
+const ADDRESS: u32 = 0x2000_0000;
+const CALLS: [&str; 4] = ["read_mem", "write_mem", "read_word", "connect_swd"];
+const LENGTH: usize = 65_536;
+const BUDGET: usize = 20_000;
+
+/// Takes each answer from a list and writes each call's number to a log, as the port's run does.
+struct Instantly<'a> {
+    answers: &'a [u64],
+    log: &'a mut [u64],
+    made: usize,
+}
+
+impl Instantly<'_> {
+    #[inline(always)]
+    fn make(&mut self, number: u64) -> Result<u32, DapError> {
+        let answer = self.answers[self.made];
+        self.log[self.made] = number;
+        self.made += 1;
+        match answer >> 32 {
+            0 => Ok(answer as u32),
+            1 => Err(DapError::SwdError(answer as u8)),
+            2 => Err(DapError::NotSupported),
+            _ => Err(DapError::InternalError),
+        }
+    }
+}
+
+/// The number of a fixed sequence in the port's log.
+fn pattern(count: usize, data: &[u8]) -> u64 {
+    match (count, data[0]) {
+        (51, _) => 0,
+        (2, _) => 1,
+        (16, 0x9E) => 2,
+        (16, _) => 3,
+        (8, 0xFF) => 4,
+        (128, _) => 5,
+        (4, _) => 6,
+        _ => 7,
+    }
+}
+
+impl DapTransport for Instantly<'_> {
+    fn capabilities(&self) -> DapCapabilities {
+        DapCapabilities::SWD
+    }
+    fn connect(&mut self, _: ConnectPort, _: &DapConfig) -> Result<ActivePort, DapError> {
+        self.make(1 << 48).map(|_| ActivePort::Swd)
+    }
+    fn swj_sequence(&mut self, _: &DapConfig, count: usize, data: &[u8]) -> Result<(), DapError> {
+        self.make(2 << 48 | pattern(count, data)).map(|_| ())
+    }
+    fn swj_pins(&mut self, _: &DapConfig, out: SwjPins, select: SwjPins, us: u32) -> Result<SwjPins, DapError> {
+        let number = 3 << 48 | u64::from(out.bits()) << 40 | u64::from(select.bits()) << 32 | u64::from(us);
+        self.make(number).map(|_| SwjPins::empty())
+    }
+    fn swd_transfer(&mut self, _: &DapConfig, request: SwdRequest, data: u32) -> Result<u32, DapError> {
+        self.make(u64::from(request.bits()) << 32 | u64::from(data))
+    }
+    fn swd_write_bits(&mut self, _: &DapConfig, count: usize, data: &[u8]) -> Result<(), DapError> {
+        let word = data.iter().rev().fold(0, |w, b| w << 8 | u64::from(*b));
+        self.make(4 << 48 | (count as u64) << 32 | word).map(|_| ())
+    }
+    fn swd_output_enable(&mut self, _: bool) -> Result<(), DapError> {
+        self.make(5 << 48).map(|_| ())
+    }
+}
+
+/// One call on a new engine.
+fn on_rust(call: usize, answers: &[u64], buf: &mut [u8], log: &mut [u64]) -> usize {
+    let mut engine = ArmDebug::new(Instantly { answers, log, made: 0 }, DapConfig);
+    let ok = match call {
+        0 => engine.read_mem(ADDRESS, buf).is_ok(),
+        1 => engine.write_mem(ADDRESS, buf).is_ok(),
+        2 => engine.read_word(ADDRESS).is_ok(),
+        _ => engine.connect_swd().is_ok(),
+    };
+    assert!(ok);
+    engine.transport().made
+}
+
+fn on_port(call: usize, answers: &[u64], buf: &mut [u8], log: &mut [u64]) -> usize {
+    let (a, an, b, bn, l, ln) = (answers.as_ptr(), answers.len(), buf.as_mut_ptr(), buf.len(), log.as_mut_ptr(), log.len());
+    let budget = BUDGET as u32;
+    // Safety: each pointer goes with its own length.
+    let made = unsafe {
+        match call {
+            0 => bench_read_mem(ADDRESS, budget, a, an, b, bn, l, ln),
+            1 => bench_write_mem(ADDRESS, budget, a, an, b, bn, l, ln),
+            2 => bench_read_word(ADDRESS, budget, a, an, b, bn, l, ln),
+            _ => bench_connect_swd(budget, a, an, b, bn, l, ln),
+        }
+    };
+    made as usize
+}
+
+fn main() {
+    let args: Vec<String> = std::env::args().collect();
+    let call = CALLS.iter().position(|c| *c == args[1]).expect("a call's name");
+    let side = if args[2] == "rust" { on_rust } else { on_port };
+    let repeats: usize = args[3].parse().expect("a number");
+    // Every answer is Ok, with both power-up acks set.
+    let answers: Vec<u64> = (0..BUDGET as u64).map(|i| 0xA000_0001 + i).collect();
+    let mut bytes = vec![0u8; LENGTH];
+    let mut log = vec![0u64; BUDGET];
+    let mut other = (bytes.clone(), log.clone());
+    let buf = if call < 2 { &mut bytes[..] } else { &mut [] };
+    let made = on_rust(call, &answers, buf, &mut log);
+    let buf2 = if call < 2 { &mut other.0[..] } else { &mut [] };
+    assert_eq!(made, on_port(call, &answers, buf2, &mut other.1), "as many calls");
+    assert!(log[..made] == other.1[..made], "the same calls");
+    assert!(buf == buf2, "the same bytes");
+    let start = Instant::now();
+    for _ in 0..repeats {
+        std::hint::black_box(side(call, &answers, buf, &mut log));
+    }
+    let nanos = start.elapsed().as_nanos() as f64 / (repeats.max(1) * made) as f64;
+    println!("{made} {nanos:.2}");
+}
