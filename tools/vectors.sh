@@ -1,5 +1,5 @@
 #!/bin/sh
-# Makes crates/replay/data/vectors anew from the unchanged Rust.
+# Makes crates/replay/stdin anew from the unchanged Rust.
 # Usage: tools/vectors.sh [SRC]
 set -eu
 calls=1-14
@@ -10,4 +10,4 @@ cd "$(dirname "$0")/.."
 tools/oracle/build.sh "$@"
 target/oracle/gen --calls "$calls" --count "$count" --seed "$seed" --bytes "$bytes" \
     --out target/oracle/scripts
-target/oracle/oracle --vectors target/oracle/scripts crates/replay/data/vectors
+target/oracle/oracle --vectors target/oracle/scripts crates/replay/stdin
