@@ -1,0 +1,4 @@
+pub mod Fpb
+pub mod Breakpoint
+pub mod After
+pub mod Cases

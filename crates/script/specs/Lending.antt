@@ -1,0 +1,81 @@
+-- What a call is lent, as zeros at first. Serves the proofs.
+use Prim.Native.Nat.{ℕ, zero, suc, _-_, _/_, _≤_}
+use mathlib.Core.Path.{_≡_, refl, ap, _∙_}
+use mathlib.Core.List.{List, _∷_}
+use native.Mathlib.Nat.{not-suc-le-zero}
+use native.Mathlib.Omega.{arith}
+use lib.ListN.{length, take, drop, replicate, length-replicate}
+use Rattle.script.specs.BigEndian.{word, row}
+use Rattle.script.specs.Request.{wordsOf, bytesOf}
+use Rattle.script.specs.declared.Buffer.{Buffer}
+use Rattle.script.specs.declared.Buffer.the-variants as B
+
+-- how many words and bytes, by the number of bytes behind the call's number
+abbrev pub wordCount : Buffer → ℕ → ℕ
+wordCount B.Nothing n = 0
+wordCount (B.Words k) n = k
+wordCount (B.Bytes k) n = 0
+wordCount B.GivenWords n = (n - 4) / 4
+wordCount B.GivenBytes n = 0
+
+abbrev pub byteCount : Buffer → ℕ → ℕ
+byteCount B.Nothing n = 0
+byteCount (B.Words k) n = 0
+byteCount (B.Bytes k) n = k
+byteCount B.GivenWords n = 0
+byteCount B.GivenBytes n = n - 4
+
+-- zeros, shut so that no proof computes thousands of them
+unfoldable pub zeros : ℕ → List ℕ
+zeros n = replicate n 0
+
+pub record Zeros (b : Buffer) (a ws bs : List ℕ) : Type 0 where
+  pub short : length a ≤ 65536
+  pub words : ws ≡ replicate (wordCount b (length a)) 0
+  pub buf : bs ≡ replicate (byteCount b (length a)) 0
+
+take-replicate : (n m : ℕ) → n ≤ m → take {A = ℕ} n (replicate m 0) ≡ replicate n 0
+take-replicate zero m h = refl
+take-replicate (suc n) zero h = absurd (not-suc-le-zero h)
+take-replicate (suc n) (suc m) h = ap (λ (l : List ℕ). 0 ∷ l) (take-replicate n m (omega arith))
+
+pub take-zeros : (n m : ℕ) → n ≤ m → take n (zeros m) ≡ replicate n 0
+unfolding zeros
+take-zeros n m h = take-replicate n m h
+
+pub length-zeros : (n : ℕ) → length (zeros n) ≡ n
+unfolding zeros
+length-zeros n = length-replicate n 0
+
+module _ {b : Buffer} {a ws bs : List ℕ} (z : Zeros b a ws bs) where
+  word-length : length ws ≡ wordCount b (length a)
+  word-length = ap length (z .words) ∙ length-replicate (wordCount b (length a)) 0
+
+  byte-length : length bs ≡ byteCount b (length a)
+  byte-length = ap length (z .buf) ∙ length-replicate (byteCount b (length a)) 0
+
+  pub few-words : b ≡ B.GivenWords → length ws ≡ (length a - 4) / 4
+  few-words e = rw e at word-length
+
+  pub few-bytes : b ≡ B.GivenBytes → length bs ≡ length a - 4
+  few-bytes e = rw e at byte-length
+
+  pub given-words : (w : List ℕ) → b ≡ B.GivenWords → w ≡ row (word a) 4 (length ws) 4 → (w ≡ wordsOf b a) × (bs ≡ bytesOf b a)
+  unfolding wordsOf bytesOf
+  given-words w e h = rw e (h ∙ ap (λ (n : ℕ). row (word a) 4 n 4) (few-words e), rw e at (z .buf))
+
+  pub given-bytes : (w : List ℕ) → b ≡ B.GivenBytes → w ≡ drop 4 a → (ws ≡ wordsOf b a) × (w ≡ bytesOf b a)
+  unfolding wordsOf bytesOf
+  given-bytes w e h = rw e (rw e at (z .words), h)
+
+  pub no-buffer : b ≡ B.Nothing → (ws ≡ wordsOf b a) × (bs ≡ bytesOf b a)
+  unfolding wordsOf bytesOf
+  no-buffer e = rw e (rw e at (z .words), rw e at (z .buf))
+
+  pub zero-words : {n : ℕ} → b ≡ B.Words n → (ws ≡ wordsOf b a) × (bs ≡ bytesOf b a)
+  unfolding wordsOf bytesOf
+  zero-words e = rw e (rw e at (z .words), rw e at (z .buf))
+
+  pub zero-bytes : {n : ℕ} → b ≡ B.Bytes n → (ws ≡ wordsOf b a) × (bs ≡ bytesOf b a)
+  unfolding wordsOf bytesOf
+  zero-bytes e = rw e (rw e at (z .words), rw e at (z .buf))

@@ -1,0 +1,8 @@
+pub mod BigEndian
+pub mod Request
+pub mod Script
+pub mod Output
+pub mod Loads
+pub mod Lending
+pub mod Performing
+pub mod Sizes
