@@ -1,24 +1,24 @@
 // Replays stored vectors from the unchanged Rust: each is a script and what `dapscript` must print for it.
 // Standard input: for each vector two lengths of 4 bytes, big-endian, then the script and the text.
+ghost use Prim.Native.Nat.{_<_};
 
-fn wide(x: u8) -> usize {
+fn wide(x: u8) -> usize
+    ensures { λ r. ⌜ r < 256 ⌝ }
+{
     x as usize
 }
 
-fn length_at(head: &[u8; 8], second: bool) -> usize {
-    if second {
-        return ((wide(head[4]) * 256 + wide(head[5])) * 256 + wide(head[6])) * 256 + wide(head[7]);
-    }
-    ((wide(head[0]) * 256 + wide(head[1])) * 256 + wide(head[2])) * 256 + wide(head[3])
+fn big_endian(a: u8, b: u8, c: u8, d: u8) -> usize {
+    0x1000000 * wide(a) + 0x10000 * wide(b) + 0x100 * wide(c) + wide(d)
 }
 
 // Whether the script prints the text.
 fn agrees(script: &[u8], text: &[u8], out: &mut [u8]) -> bool {
     let n = script::dapscript(script, out);
-    if out.len() < n {
-        return false;
+    if n <= out.len() {
+        return check::same(&out[..n], text);
     }
-    check::same(&out[..n], text)
+    false
 }
 
 pub enum Vector {
@@ -33,8 +33,8 @@ fn next_vector(script: &mut [u8], text: &mut [u8], out: &mut [u8]) -> Vector {
     if io::read_full(0, &mut head) < 8 {
         return Vector::End;
     }
-    let n = length_at(&head, false);
-    let m = length_at(&head, true);
+    let n = big_endian(head[0], head[1], head[2], head[3]);
+    let m = big_endian(head[4], head[5], head[6], head[7]);
     if script.len() < n {
         return Vector::Differs;
     }
@@ -47,6 +47,11 @@ fn next_vector(script: &mut [u8], text: &mut [u8], out: &mut [u8]) -> Vector {
         return Vector::Agrees;
     }
     Vector::Differs
+}
+
+// The same over whole arrays.
+fn vector_of(script: &mut [u8; 65600], text: &mut [u8; 262144], out: &mut [u8; 1048576]) -> Vector {
+    next_vector(script, text, out)
 }
 
 fn report(agree: u64, differ: u64) {
@@ -64,7 +69,8 @@ fn main() {
     let mut differ: u64 = 0;
     let mut left: u64 = 100000;
     while 0 < left {
-        match next_vector(&mut script, &mut text, &mut out) {
+        left -= 1;
+        match vector_of(&mut script, &mut text, &mut out) {
             Vector::Agrees => {
                 agree = std::num::wrapping_add_u64(agree, 1);
             }
@@ -72,10 +78,10 @@ fn main() {
                 differ = std::num::wrapping_add_u64(differ, 1);
             }
             Vector::End => {
-                left = 1;
+                report(agree, differ);
+                return;
             }
         }
-        left -= 1;
     }
     report(agree, differ);
 }

@@ -39,13 +39,14 @@ take-replicate zero m h = refl
 take-replicate (suc n) zero h = absurd (not-suc-le-zero h)
 take-replicate (suc n) (suc m) h = ap (λ (l : List ℕ). 0 ∷ l) (take-replicate n m (omega arith))
 
-pub take-zeros : (n m : ℕ) → n ≤ m → take n (zeros m) ≡ replicate n 0
-unfolding zeros
-take-zeros n m h = take-replicate n m h
+-- a part of so many zeros
+module _ (n m : ℕ) {l : List ℕ} (h : n ≤ m) (e : l ≡ zeros m) where
+  pub part-zeros : take n l ≡ replicate n 0
+  unfolding zeros
+  part-zeros = ap (λ (x : List ℕ). take n x) e ∙ take-replicate n m h
 
-pub length-zeros : (n : ℕ) → length (zeros n) ≡ n
-unfolding zeros
-length-zeros n = length-replicate n 0
+  pub part-length : length (take n l) ≡ n
+  part-length = ap length part-zeros ∙ length-replicate n 0
 
 module _ {b : Buffer} {a ws bs : List ℕ} (z : Zeros b a ws bs) where
   word-length : length ws ≡ wordCount b (length a)

@@ -251,6 +251,25 @@ fn load_bytes(a: &[u8], buf: &mut [u8])
     }
 }
 
+fn zero_words() -> [u32; 65536]
+    ensures { λ r. ⌜ r ≡ zeros 65536 ⌝ }
+{
+    [0; 65536]
+}
+
+fn zero_bytes() -> [u8; 65536]
+    ensures { λ r. ⌜ r ≡ zeros 65536 ⌝ }
+{
+    [0; 65536]
+}
+
+// Room for the answers, and for the calls that they answer.
+fn zero_answers() -> [u64; 9361]
+    ensures { λ r. ⌜ 9361 ≡ length r ⌝ }
+{
+    [0; 9361]
+}
+
 // Puts what a call is lent into words and bytes that are zeros.
 fn fill(b: Buffer, a: &[u8], words: &mut [u32], buf: &mut [u8])
     requires { ⌜ Zeros b (now a) (now words) (now buf) ⌝ }
@@ -296,7 +315,7 @@ fn perform(c: EngineCall, b: Buffer, answers: &[u64], words: &mut [u32], buf: &m
     requires { ⌜ (length (now answers) ≤ 9361) × (length (now words) < 65536) × (length (now buf) < 65536) ⌝ }
     ensures { λ r. ⌜ Puts (now (out .entry)) 0 (performed c b (now (words .entry)) (now (buf .entry)) (now (answers .entry))) (now (out .exit)) r × (r ≤ 1048576) ⌝ }
 {
-    let mut log = [0u64; 9361];
+    let mut log = zero_answers();
     let new = Remembered { select: 0xFFFFFFFF, csw: false, apsel: 0 };
     let ran = engine::run(new, c, answers.len() as u32, answers, words, buf, &mut log);
     let n = ran.count as usize;
@@ -355,24 +374,6 @@ fn lend(c: EngineCall, b: Buffer, a: &[u8], answers: &[u64], words: &mut [u32], 
 {
     fill(b, a, words, buf);
     perform(c, b, answers, words, buf, out)
-}
-
-fn zero_words() -> [u32; 65536]
-    ensures { λ r. ⌜ r ≡ zeros 65536 ⌝ }
-{
-    [0; 65536]
-}
-
-fn zero_bytes() -> [u8; 65536]
-    ensures { λ r. ⌜ r ≡ zeros 65536 ⌝ }
-{
-    [0; 65536]
-}
-
-fn zero_answers() -> [u64; 9361]
-    ensures { λ r. ⌜ 9361 ≡ length r ⌝ }
-{
-    [0; 9361]
 }
 
 // A call with its arguments and answers.

@@ -1,6 +1,7 @@
+-- A listing has at most 1,048,576 bytes, as many as the room for it.
 use native.Mathlib.Omega.{arith}
-use lib.ListN.{length-take}
 use borrow.Author.Needs.{needs}
+use lib.ListN.{length-take}
 use Rattle.dapscript.proofs.main.Statement.{statement}
 use Rattle.dapscript.proofs.main.Tie as tie
 

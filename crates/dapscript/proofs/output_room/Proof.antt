@@ -1,3 +1,4 @@
+-- The length of so many zeros.
 use Prim.Native.Nat.{ℕ}
 use mathlib.Core.Path.{sym}
 use lib.ListN.{length-replicate}

@@ -1,13 +1,12 @@
 -- The digits above the last one are put by the call of itself, with one place less; then the last one is put behind them.
 -- The measure is k.
 use Prim.Native.Nat.{ℕ, _<_}
-use mathlib.Core.Path.{refl, sym, _∙_}
+use mathlib.Core.Path.{refl}
 use native.Mathlib.Omega.{arith}
-use native.Mathlib.Nat.{pos-of-ne-zero}
 use borrow.Author.Needs.{needs}
 use borrow.Fn.Kinds.{In}
 use borrow.Fn.PlainCycle.{Measures, is, falls, and}
-use Rattle.listing.specs.Puts.{Puts, puts-then}
+use Rattle.listing.specs.Puts.{puts-then}
 use Rattle.listing.specs.TextLaws.{digits-none, digits-few, digits-more}
 use Rattle.listing.proofs.put_digits.Reads as put-digits
 use Rattle.listing.proofs.put_digits.Kinds as put-digits-kinds

@@ -21,19 +21,12 @@ abbrev μ-loop : tie.MeasureT-loop
 μ-loop out₀ at log p₀ i₀ out p i = length log - i
 
 pub put-calls-spec : {M : Type 1} → statement M
-put-calls-spec = tie.close (tie.spec Inv-loop μ-loop
-    (λ c. (omega arith, omega arith, search needs, left-all))
-    (λ c. omega arith)
-    (λ c. omega arith)
-    (λ c. search needs)
-    (λ c. omega arith)
-    (λ c κs. search needs)
-    (λ c κs. omega arith)
-    (λ c. omega arith)
-    (λ c. omega arith)
+put-calls-spec = tie.close (tie.spec
+    Inv-loop μ-loop (λ c. (omega arith, omega arith, search needs, left-all)) (λ c. omega arith) (λ c. omega arith) (λ c. search needs) (λ c. omega arith)
+    (λ c κs. search needs) (λ c κs. omega arith) (λ c. omega arith) (λ c. omega arith)
     (λ c. let d = c .before .before .before .before .before .before .before in
-      (omega arith, omega arith, search needs,
-        left-line (d .before .before .before .args .log .now) (d .loop .i) (omega arith) (d .loop .inv .3)
-        (rw (← (c .before .before .before .call-of .ensures)) (c .before .before .put-line .ensures .0))))
+      (omega arith, omega arith, search needs, left-line (d .before .before .before .args .log .now) (d .loop .i) (omega arith) (d .loop .inv .3) (rw (←
+        (c .before .before .before .call-of .ensures)) (c .before .before .put-line .ensures .0))))
     (λ c. search needs)
-    (λ c. (left-lines (c .before .before .before .before .args .log .now) (c .before .loop .i) (c .before .loop .i + 1) (omega arith) (c .before .loop .inv .3), omega arith)))
+    (λ c. (left-lines (c .before .before .before .before .args .log .now) (c .before .loop .i) (c .before .loop .i + 1) (omega arith) (c .before .loop .inv .3),
+        omega arith)))

@@ -18,11 +18,8 @@ abbrev μ-loop : tie.MeasureT-loop
 μ-loop out₀ at bytes p₀ i₀ out p i = length bytes - i
 
 pub put-hex-bytes-spec : {M : Type 1} → statement M
-put-hex-bytes-spec = tie.close (tie.spec Inv-loop μ-loop
-    (λ c. (omega arith, omega arith, search needs, left-all))
-    (λ c. omega arith)
-    (λ c κs. search needs)
-    (λ c. omega arith)
+put-hex-bytes-spec = tie.close (tie.spec
+    Inv-loop μ-loop (λ c. (omega arith, omega arith, search needs, left-all)) (λ c. omega arith) (λ c κs. search needs) (λ c. omega arith)
     (λ c. omega arith)
     (λ c. let d = c .before .before .before .before .before .before in
       (omega arith, omega (arith, c .before .before .put-hex-byte .ensures .place), search needs,

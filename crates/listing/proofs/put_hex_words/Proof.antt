@@ -18,13 +18,9 @@ abbrev μ-loop : tie.MeasureT-loop
 μ-loop out₀ at words p₀ i₀ out p i = length words - i
 
 pub put-hex-words-spec : {M : Type 1} → statement M
-put-hex-words-spec = tie.close (tie.spec Inv-loop μ-loop
-    (λ c. (omega arith, omega arith, search needs, left-all))
-    (λ c. search needs)
-    (λ c. omega arith)
-    (λ c κs. search needs)
-    (λ c. omega arith)
-    (λ c. omega arith)
+put-hex-words-spec = tie.close (tie.spec
+    Inv-loop μ-loop (λ c. (omega arith, omega arith, search needs, left-all)) (λ c. search needs) (λ c. omega arith) (λ c κs. search needs)
+    (λ c. omega arith) (λ c. omega arith)
     (λ c. let d = c .before .before .before .before .before .before in
       (omega arith, omega (arith, c .before .before .put-hex-word .ensures .place), search needs,
         left-more hexWord (d .before .before .before .args .words .now) (d .loop .i) (omega arith) (d .loop .inv .3) (c .before .before .put-hex-word .ensures)))

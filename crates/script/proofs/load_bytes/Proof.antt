@@ -16,15 +16,10 @@ abbrev μ-loop : tie.MeasureT-loop
 μ-loop a buf₀ j₀ buf j = length buf₀ - j
 
 pub load-bytes-spec : {M : Type 1} → statement M
-load-bytes-spec = tie.close (tie.spec Inv-loop μ-loop
-    (λ c. (omega arith, search needs, left-all))
+load-bytes-spec = tie.close (tie.spec
+    Inv-loop μ-loop (λ c. (omega arith, search needs, left-all)) (λ c. omega arith) (λ c. omega arith) (λ c. omega arith) (λ c. omega arith)
     (λ c. omega arith)
-    (λ c. omega arith)
-    (λ c. omega arith)
-    (λ c. omega arith)
-    (λ c. omega arith)
-    (λ c. let d = c .before .before in
-      (omega arith, search needs, left-rest (d .before .args .a .now) (d .loop .j) (omega arith) (d .loop .inv .2)))
+    (λ c. let d = c .before .before in (omega arith, search needs, left-rest (d .before .args .a .now) (d .loop .j) (omega arith) (d .loop .inv .2)))
     (λ c. search needs)
     (λ c. let d = c .before .before in
       rest-whole (d .args .a .now) (c .before .loop .j) (omega arith) (omega (arith, length-drop 4 (d .args .a .now))) (c .before .loop .inv .2)))

@@ -20,17 +20,14 @@ abbrev μ-loop : tie.MeasureT-loop
 μ-loop a words₀ at₀ j₀ words at j = length words₀ - j
 
 pub load-words-spec : {M : Type 1} → statement M
-load-words-spec = tie.close (tie.spec Inv-loop μ-loop
-    (λ c. (omega arith, omega arith, search needs, row-all (word (c .before .before .args .a .now)) 4 (c .before .before .args .words .now) (length (c .before .before .args .words .now)) 4))
-    (λ c κs. omega arith)
-    (λ c. search needs)
-    (λ c. omega arith)
-    (λ c. omega arith)
-    (λ c. omega arith)
-    (λ c. omega arith)
+load-words-spec = tie.close (tie.spec
+    Inv-loop μ-loop
+    (λ c. (omega arith, omega arith, search needs, row-all (word (c .before .before .args .a .now)) 4 (c .before .before .args .words .now) (length
+        (c .before .before .args .words .now)) 4))
+    (λ c κs. omega arith) (λ c. search needs) (λ c. omega arith) (λ c. omega arith) (λ c. omega arith) (λ c. omega arith)
     (λ c. let d = c .before .before in
-      (omega arith, omega arith, search needs,
-        rw (c .word .ensures) (left-row (word (d .before .before .before .args .a .now)) 4 (length (d .before .before .before .args .words .now)) (d .loop .j) (d .loop .at) (omega arith) (d .loop .inv .3))))
+      (omega arith, omega arith, search needs, rw (c .word .ensures) (left-row (word (d .before .before .before .args .a .now)) 4 (length
+        (d .before .before .before .args .words .now)) (d .loop .j) (d .loop .at) (omega arith) (d .loop .inv .3))))
     (λ c. search needs)
     (λ c. let d = c .before .before .before .before in
       row-whole (word (d .args .a .now)) 4 (length (d .args .words .now)) 4 (c .before .loop .j) (c .before .loop .at) (omega arith) refl (c .before .loop .inv .3)))

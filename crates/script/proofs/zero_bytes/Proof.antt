@@ -1,11 +1,9 @@
-use Rattle.script.specs.Lending.{zeros}
+-- The array is so many zeros by definition.
 use mathlib.Core.Path.{refl}
+use Rattle.script.specs.Lending.{zeros}
 use Rattle.script.proofs.zero_bytes.Statement.{statement}
 use Rattle.script.proofs.zero_bytes.Tie as tie
-use Rattle.script.proofs.zero_bytes.Reads as reads
-use Rattle.script.proofs.zero_bytes.Lts as lts
 
--- src/lib.rt:366:1
 returns : tie.Need-returns
 unfolding zeros
 returns c = refl

@@ -1,0 +1,40 @@
+-- Equations that a reader expects of the definitions. They serve no proof.
+use mathlib.Core.Path.{_≡_, refl}
+use Prim.Native.Nat.{ℕ, _+_, _*_, _/_, _%_, _^_, min}
+use borrow.Author.Tests.{eq-eqb}
+use Rattle.target.specs.declared.Target.{Target}
+use Rattle.target.specs.declared.Register.the-variants.{Dp, Ap}
+use Rattle.target.specs.declared.DpRegister.the-variants as D
+use Rattle.target.specs.declared.ApRegister.the-variants as A
+use Rattle.target.specs.Decode.{registerOf}
+use Rattle.target.specs.MemAp.{cswKept, nextTar}
+
+-- TAR's low ten bits gain 4 modulo 1024
+ten-bits : (t : Target) → t .width ≡ 10 → t .csw / 16 % 4 ≡ 1 → nextTar t ≡ t .tar / 1024 * 1024 + (t .tar % 1024 + 4) % 1024
+ten-bits t w i = simp (w, i)
+
+-- the CSW that the engine writes reads back equal (reading 17)
+csw-kept : cswKept 0x23000012 ≡ 0x23000012
+csw-kept = refl
+
+-- RDBUFF and SELECT answer at every SELECT (reading 20), CTRL/STAT at DPBANKSEL 0, DRW at AP 0, bank 0
+rdbuff : (select : ℕ) → registerOf 0xE select ≡ Dp D.RdbuffRead
+rdbuff select = refl
+
+select-write : (select : ℕ) → registerOf 0x8 select ≡ Dp D.SelectWrite
+select-write select = refl
+
+ctrl-stat : registerOf 0x6 0x000000F0 ≡ Dp D.CtrlStatRead
+ctrl-stat = refl
+
+ctrl-stat-banked : registerOf 0x6 0x00000001 ≡ Dp D.OtherRead
+ctrl-stat-banked = refl
+
+drw : registerOf 0xF 0x00FFFF0F ≡ Ap A.DrwRead
+drw = refl
+
+drw-other-bank : registerOf 0xF 0x00000010 ≡ Ap A.OtherRead
+drw-other-bank = refl
+
+drw-other-ap : registerOf 0xF 0x01000000 ≡ Ap A.OtherRead
+drw-other-ap = refl
