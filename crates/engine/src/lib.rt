@@ -6,21 +6,27 @@
 // transport call or the call's ending. `run` makes a whole call over a budget of answers.
 ghost use mathlib.Core.Path.{_≡_};
 ghost use mathlib.Core.List.{List};
-ghost use Prim.Native.Nat.{ℕ, min};
-ghost use lib.ListN.{length, replicate};
+ghost use Prim.Native.Nat.{ℕ, _≤_};
+ghost use lib.ListN.{length, replicate, take};
 ghost use Rattle.transport.specs.Wire.{follow, play};
+ghost use Rattle.memap.specs.Words.{pull, push};
+ghost use Rattle.memap.specs.Ops.{perform};
 ghost use Rattle.memap.specs.Flight.{memoryOf, startedTree};
+ghost use Rattle.jobs.specs.Change.{changed};
 ghost use Rattle.jobs.specs.Job.{exec};
 ghost use Rattle.jobs.specs.Asks.{thenOf, nextJob};
 ghost use Rattle.engine.specs.Calls.{jobOf, lentWords, lent, pick, callTree};
-ghost use Rattle.engine.specs.Step.{callAfter, asksJob, stateTree, movedTree, Moves, Numbered, Lent};
-ghost use Rattle.engine.specs.Run.{within, Fits, Reports, RanAs};
+ghost use Rattle.engine.specs.State.{callAfter, asksJob, stateTree, dueOf};
+ghost use Rattle.engine.specs.StepLaws.{Moves, Numbered};
+ghost use Rattle.engine.specs.Step.{Lent};
+ghost use Rattle.engine.specs.Run.{within, Reports, RanAs};
+ghost use Rattle.engine.specs.Runs.{TransferRuns, OpRuns, AheadRuns};
 use calls_connect::{ConnectAt, ConnectCall};
 use calls_memory::{MemoryAt, MemoryCall};
 use jobs::{Change, Next};
-use memap::{Op, Started, Went};
+use memap::{Op, OpNext, Started, Went};
 use numbers::{CallEnding, TransportCall};
-use transport::{Answer, Call, Mode, Outcome, Remembered};
+use transport::{Answer, Call, Mode, Outcome, Remembered, Transfer};
 
 // The calls and their arguments; words and bytes are those that the caller lends.
 pub enum EngineCall {
@@ -113,19 +119,27 @@ fn call_start(c: EngineCall, words: usize, bytes: usize) -> Asks
     }
 }
 
+// The transport call that is due while a transfer is in flight: ABORT after an error.
+fn due(t: Transfer) -> Call
+    ensures { λ c. ⌜ c ≡ dueOf (t .mode) t ⌝ }
+{
+    let mode = t.mode;
+    let c = t.call;
+    match mode {
+        Mode::Trying => c,
+        Mode::Aborting => Call::Transfer { request: 0, word: 0x1E },
+        Mode::Raw => c,
+    }
+}
+
 // The transport call of a state is due.
 fn go(r: Remembered, p: At, s: Started, own: bool) -> Moved
     ensures { λ x. ⌜ ((ws b : List ℕ) → Moves (startedTree s (thenOf (callAfter p)) (memoryOf r ws b)) x own ws b) ⌝ }
 {
     let l = s.launched;
     let t = l.transfer;
-    let mode = t.mode;
-    let c = t.call;
-    match mode {
-        Mode::Trying => Moved { todo: Todo::Make(c), state: State { remembered: r, at: p, started: s, own: own } },
-        Mode::Aborting => Moved { todo: Todo::Make(Call::Transfer { request: 0, word: 0x1E }), state: State { remembered: r, at: p, started: s, own: own } },
-        Mode::Raw => Moved { todo: Todo::Make(c), state: State { remembered: r, at: p, started: s, own: own } },
-    }
+    let c = due(t);
+    Moved { todo: Todo::Make(c), state: State { remembered: r, at: p, started: s, own: own } }
 }
 
 // What is asked for is begun, or the call ends.
@@ -141,6 +155,15 @@ fn begun(r: Remembered, p: At, n: Next, own: bool) -> Moved
     }
 }
 
+// A change of what is kept.
+fn change(c: Change, r: Remembered, ws: &mut [u32], buf: &mut [u8]) -> Remembered
+    ensures { λ x. ⌜ changed c (memoryOf r (now (ws .entry)) (now (buf .entry))) ≡ memoryOf x (now (ws .exit)) (now (buf .exit)) ⌝ }
+{
+    let r2 = jobs::remembered_after(c, r);
+    jobs::apply(c, ws, buf);
+    r2
+}
+
 // A change, and then what is asked for.
 fn asked(r: Remembered, a: Asks, own: bool, ws: &mut [u32], buf: &mut [u8]) -> Moved
     ensures { λ x. ⌜ Moves (exec (asksJob a) (memoryOf r (now (ws .entry)) (now (buf .entry)))) x own (now (ws .exit)) (now (buf .exit)) ⌝ }
@@ -148,8 +171,7 @@ fn asked(r: Remembered, a: Asks, own: bool, ws: &mut [u32], buf: &mut [u8]) -> M
     let c = a.change;
     let p = a.at;
     let n = a.next;
-    let r2 = jobs::remembered_after(c, r);
-    jobs::apply(c, ws, buf);
+    let r2 = change(c, r, ws, buf);
     begun(r2, p, n, own)
 }
 
@@ -250,51 +272,211 @@ pub struct Ran {
     pub remembered: Remembered,
 }
 
-fn limit_of(budget: u32, n: usize) -> u32
-    ensures { λ r. ⌜ r ≡ min budget n ⌝ }
+// How a part of a run ends: with an outcome, or where no answer is left.
+pub enum RunEnd {
+    Over(Outcome),
+    Out,
+}
+
+pub struct TransferRan {
+    pub count: u32,
+    pub end: RunEnd,
+}
+
+pub struct OpRan {
+    pub count: u32,
+    pub remembered: Remembered,
+    pub end: RunEnd,
+}
+
+// How far a run of words has come: `left` more words.
+pub struct Ahead {
+    pub count: u32,
+    pub left: u32,
+}
+
+// How many transport calls a budget and a list of answers admit.
+fn limit_of(budget: u32, answers: &[u64]) -> u32
+    ensures { λ r. ⌜ (take r (now (answers .entry)) ≡ take budget (now (answers .entry))) × (r ≤ length (now (answers .entry))) ⌝ }
 {
+    let n = answers.len();
     if n < (budget as usize) {
         return n as u32;
     }
     budget
 }
 
-// The run of a call from its first transport call on.
-fn run_on(start: Moved, budget: u32, answers: &[u64], ws: &mut [u32], buf: &mut [u8], log: &mut [u64]) -> Ran
-    requires { ⌜ Fits (start .todo) (start .state) (now ws) (now buf) ⌝ }
-    ensures { λ r. ⌜ Reports (play (movedTree (start .todo) (start .state) (now (ws .entry)) (now (buf .entry))) (within budget (now (answers .entry)))) r (now (ws .exit)) (now (buf .exit)) (now (log .entry)) (now (log .exit)) ⌝ }
+// A transfer in flight, until it is over.
+fn run_flight(start: Transfer, from: u32, limit: u32, answers: &[u64], log: &mut [u64]) -> TransferRan
+    requires { ⌜ limit ≤ length (now answers) ⌝ }
+    ensures { λ x. ⌜ TransferRuns start limit (now (answers .entry)) from (now (log .entry)) x (now (log .exit)) ⌝ }
 {
-    let mut s = start.state;
-    let mut n = start.todo;
-    let mut i: u32 = 0;
-    let limit = limit_of(budget, answers.len());
+    let mut t = start;
+    let mut i = from;
     while i < limit {
-        match n {
-            Todo::Finish(o) => {
-                let e = numbers::result_of(o);
-                let r = s.remembered;
-                return Ran { count: i, ending: e, remembered: r };
+        numbers::note(log, i, due(t));
+        let j = i as usize;
+        let a = numbers::answer_of(answers[j]);
+        i += 1;
+        match transport::transfer_step(t, a) {
+            transport::Went::Again(t2) => {
+                t = t2;
             }
-            Todo::Make(c) => {
-                numbers::note(log, i, c);
-                let j = i as usize;
-                let a = numbers::answer_of(answers[j]);
-                let m = move_on(s, a, ws, buf);
-                let s2 = m.state;
-                let n2 = m.todo;
-                s = s2;
-                n = n2;
-                i += 1;
+            transport::Went::Ended(o) => {
+                return TransferRan { count: i, end: RunEnd::Over(o) };
             }
         }
     }
-    let r = s.remembered;
-    match n {
-        Todo::Finish(o) => {
-            let e = numbers::result_of(o);
-            Ran { count: i, ending: e, remembered: r }
+    TransferRan { count: i, end: RunEnd::Out }
+}
+
+// The same, where an Ok comes at once without the loop.
+fn run_transfer(t: Transfer, i: u32, limit: u32, answers: &[u64], log: &mut [u64]) -> TransferRan
+    requires { ⌜ limit ≤ length (now answers) ⌝ }
+    ensures { λ x. ⌜ TransferRuns t limit (now (answers .entry)) i (now (log .entry)) x (now (log .exit)) ⌝ }
+{
+    if i < limit {
+        let j = i as usize;
+        let mode = t.mode;
+        let c = t.call;
+        match numbers::answer_of(answers[j]) {
+            Answer::Good(v) => match mode {
+                Mode::Trying => {
+                    numbers::note(log, i, c);
+                    return TransferRan { count: i + 1, end: RunEnd::Over(Outcome::Value(v)) };
+                }
+                Mode::Raw => {
+                    numbers::note(log, i, c);
+                    return TransferRan { count: i + 1, end: RunEnd::Over(Outcome::Value(v)) };
+                }
+                Mode::Aborting => {}
+            },
+            Answer::SwdError(_) => {}
+            Answer::NotSupported => {}
+            Answer::Other => {}
         }
-        Todo::Make(_) => Ran { count: i, ending: CallEnding { number: 11, value: 0 }, remembered: r },
+    }
+    run_flight(t, i, limit, answers, log)
+}
+
+// A run of reads, as long as each is answered Ok at once.
+fn pull_ahead(last: u32, more: u32, from: u32, limit: u32, answers: &[u64], ws: &mut [u32], log: &mut [u64]) -> Ahead
+    requires { ⌜ limit ≤ length (now answers) ⌝ }
+    ensures { λ x. ⌜ AheadRuns (pull last) more limit (now (answers .entry)) from (now (ws .entry)) (now (log .entry)) x (now (ws .exit)) (now (log .exit)) ⌝ }
+{
+    let mut n = more;
+    let mut i = from;
+    while i < limit {
+        if n == 0 {
+            return Ahead { count: i, left: 0 };
+        }
+        let j = i as usize;
+        let Answer::Good(v) = numbers::answer_of(answers[j]) else {
+            return Ahead { count: i, left: n };
+        };
+        numbers::note(log, i, Call::Transfer { request: 15, word: 0 });
+        memap::place_word(ws, memap::minus(last, n), v);
+        n -= 1;
+        i += 1;
+    }
+    Ahead { count: i, left: n }
+}
+
+// A run of writes, as long as each is answered Ok at once.
+fn push_ahead(last: u32, more: u32, from: u32, limit: u32, answers: &[u64], ws: &[u32], log: &mut [u64]) -> Ahead
+    requires { ⌜ limit ≤ length (now answers) ⌝ }
+    ensures { λ x. ⌜ AheadRuns (push last) more limit (now (answers .entry)) from (now (ws .entry)) (now (log .entry)) x (now (ws .entry)) (now (log .exit)) ⌝ }
+{
+    let mut n = more;
+    let mut i = from;
+    while i < limit {
+        if n == 0 {
+            return Ahead { count: i, left: 0 };
+        }
+        let j = i as usize;
+        let Answer::Good(_) = numbers::answer_of(answers[j]) else {
+            return Ahead { count: i, left: n };
+        };
+        let v = memap::word_at(ws, memap::minus(last, n - 1));
+        numbers::note(log, i, Call::Transfer { request: 13, word: v });
+        n -= 1;
+        i += 1;
+    }
+    Ahead { count: i, left: n }
+}
+
+// An operation, until it is over.
+fn run_op(before: Remembered, w: Op, from: u32, limit: u32, answers: &[u64], ws: &mut [u32], log: &mut [u64]) -> OpRan
+    requires { ⌜ limit ≤ length (now answers) ⌝ }
+    ensures { λ x. ⌜ OpRuns (perform w) before limit (now (answers .entry)) from (now (ws .entry)) (now (log .entry)) x (now (ws .exit)) (now (log .exit)) ⌝ }
+{
+    let mut s = memap::op_start(before, w);
+    let mut r = before;
+    let mut i = from;
+    loop {
+        let l = s.launched;
+        let t = l.transfer;
+        let x = run_transfer(t, i, limit, answers, log);
+        i = x.count;
+        let end = x.end;
+        match end {
+            RunEnd::Out => return OpRan { count: i, remembered: r, end: RunEnd::Out },
+            RunEnd::Over(o) => match memap::op_ended(r, s, o, ws) {
+                OpNext::Moving(r2, s2) => {
+                    r = r2;
+                    s = s2;
+                }
+                OpNext::Finished(r2, o2) => return OpRan { count: i, remembered: r2, end: RunEnd::Over(o2) },
+                OpNext::Pulling(r2, t, n) => {
+                    let a = pull_ahead(t.last, n, i, limit, answers, ws, log);
+                    r = r2;
+                    i = a.count;
+                    s = memap::pull_on(t, a.left);
+                }
+                OpNext::Pushing(r2, t, n) => {
+                    let a = push_ahead(t.last, n, i, limit, answers, ws, log);
+                    r = r2;
+                    i = a.count;
+                    s = memap::push_on(t, a.left, ws);
+                }
+            },
+        }
+    }
+}
+
+// The run of a call, operation by operation.
+fn run_on(before: Remembered, start: Asks, budget: u32, answers: &[u64], ws: &mut [u32], buf: &mut [u8], log: &mut [u64]) -> Ran
+    ensures { λ r. ⌜ Reports (play (exec (asksJob start) (memoryOf before (now (ws .entry)) (now (buf .entry)))) (within budget (now (answers .entry)))) r (now (ws .exit)) (now (buf .exit)) (now (log .entry)) (now (log .exit)) ⌝ }
+{
+    let limit = limit_of(budget, answers);
+    let mut r = before;
+    let mut a = start;
+    let mut i: u32 = 0;
+    loop {
+        let c = a.change;
+        let p = a.at;
+        let n = a.next;
+        let r2 = change(c, r, ws, buf);
+        match n {
+            Next::End(o) => {
+                let e = numbers::result_of(o);
+                return Ran { count: i, ending: e, remembered: r2 };
+            }
+            Next::Do(w) => {
+                let x = run_op(r2, w, i, limit, answers, ws, log);
+                r = x.remembered;
+                i = x.count;
+                let end = x.end;
+                match end {
+                    RunEnd::Out => {
+                        return Ran { count: i, ending: CallEnding { number: 11, value: 0 }, remembered: r };
+                    }
+                    RunEnd::Over(o) => {
+                        a = call_after(p, o);
+                    }
+                }
+            }
+        }
     }
 }
 
@@ -303,11 +485,11 @@ pub fn run(r: Remembered, c: EngineCall, budget: u32, answers: &[u64], words: &m
     ensures { λ x. ⌜ RanAs (lent c) (play (callTree c r (replicate 64 0) (now (words .entry)) (now (buf .entry))) (within budget (now (answers .entry)))) x (now (words .entry)) (now (words .exit)) (now (buf .exit)) (now (log .entry)) (now (log .exit)) ⌝ }
 {
     let n = words.len();
+    let m = buf.len();
+    let a = call_start(c, n, m);
     if owns(c) {
-        let m = first(r, c, true, n, words, buf);
-        return run_on(m, budget, answers, words, buf, log);
+        return run_on(r, a, budget, answers, words, buf, log);
     }
     let mut row = [0u32; 64];
-    let m = first(r, c, false, n, &mut row, buf);
-    run_on(m, budget, answers, &mut row, buf, log)
+    run_on(r, a, budget, answers, &mut row, buf, log)
 }

@@ -1,9 +1,10 @@
 -- What a call changes besides its transport calls: what is remembered, the row of words, the caller's buffer.
 use Prim.Native.Nat.{ℕ}
 use mathlib.Core.Bool.{Bool, true, false}
-use mathlib.Core.List.{List}
+use mathlib.Core.List.{List, [], _∷_}
 use lib.Dec.{eqb}
 use lib.ListN.{set, drop}
+use lib.Seq.{sets}
 use Rattle.transport.specs.Wire.{Memory}
 use Rattle.transport.specs.declared.Remembered.{Remembered}
 use Rattle.memap.specs.Ports.{selected}
@@ -34,6 +35,12 @@ rememberedAfter (C.StoreWords at n) r = r
 rememberedAfter (C.StorePart at skip count word) r = r
 rememberedAfter (C.LoadWords at n) r = r
 rememberedAfter (C.Patch at skip count word) r = r
+rememberedAfter (C.Put at word) r = r
+rememberedAfter (C.Registers r0 r1 r2 r3 sp lr pc) r = r
+
+-- the xPSR that a function starts with: its T bit alone (000: start_function)
+abbrev pub XPSR-THUMB : ℕ
+XPSR-THUMB = 0x01000000
 
 abbrev pub wordsAfter : Change → List ℕ → List ℕ → List ℕ
 wordsAfter C.Nothing ws b = ws
@@ -45,6 +52,8 @@ wordsAfter (C.StoreWords at n) ws b = ws
 wordsAfter (C.StorePart at skip count word) ws b = ws
 wordsAfter (C.LoadWords at n) ws b = loadWords n (drop at b) ws
 wordsAfter (C.Patch at skip count word) ws b = set ws 0 (patchWord count word skip (drop at b))
+wordsAfter (C.Put at word) ws b = set ws at word
+wordsAfter (C.Registers r0 r1 r2 r3 sp lr pc) ws b = sets ws 8 (r0 ∷ r1 ∷ r2 ∷ r3 ∷ sp ∷ lr ∷ pc ∷ XPSR-THUMB ∷ [])
 
 abbrev pub bufAfter : Change → List ℕ → List ℕ → List ℕ
 bufAfter C.Nothing ws b = b
@@ -56,6 +65,8 @@ bufAfter (C.StoreWords at n) ws b = fromPlace at (storeWords n ws) b
 bufAfter (C.StorePart at skip count word) ws b = fromPlace at (storePart count word skip) b
 bufAfter (C.LoadWords at n) ws b = b
 bufAfter (C.Patch at skip count word) ws b = b
+bufAfter (C.Put at word) ws b = b
+bufAfter (C.Registers r0 r1 r2 r3 sp lr pc) ws b = b
 
 abbrev pub changed : Change → Memory → Memory
 changed c m = record { remembered = rememberedAfter c (m .remembered); words = wordsAfter c (m .words) (m .buf); buf = bufAfter c (m .words) (m .buf) }

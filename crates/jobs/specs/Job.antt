@@ -35,13 +35,21 @@ return v = ends (Value v)
 abbrev pub fail : ArmError → Job
 fail e = ends (Failed e)
 
+-- j, and then k whatever came of it
+abbrev pub attempt : Job → (Outcome → Job) → Job
+attempt (ends o) k = k o
+attempt (op w good bad) k = op w (λ v. attempt (good v) k) (λ e. attempt (bad e) k)
+attempt (keep c j) k = keep c (attempt j k)
+
+-- an error ends the call
+abbrev pub orFail : (ℕ → Job) → Outcome → Job
+orFail k (Value v) = k v
+orFail k (Failed e) = fail e
+
 infixr 1 _>>=_ _>>_
 
 abbrev pub _>>=_ : Job → (ℕ → Job) → Job
-_>>=_ (ends (Value v)) k = k v
-_>>=_ (ends (Failed e)) k = fail e
-_>>=_ (op w good bad) k = op w (λ v. good v >>= k) (λ e. bad e >>= k)
-_>>=_ (keep c j) k = keep c (j >>= k)
+_>>=_ j k = attempt j (orFail k)
 
 abbrev pub _>>_ : Job → Job → Job
 _>>_ j k = j >>= (λ (_ : ℕ). k)

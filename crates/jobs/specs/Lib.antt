@@ -2,4 +2,5 @@ pub mod Bytes
 pub mod ByteLaws
 pub mod Change
 pub mod Job
+pub mod JobLaws
 pub mod Asks

@@ -3,17 +3,19 @@
 // Ported from arm-debug/src/lib.rs of ciniml/rust-dap.
 
 // What a call changes besides its transport calls: what is remembered, the row of words, the caller's buffer.
+ghost use mathlib.Core.List.{[], _∷_};
 ghost use mathlib.Core.Path.{_≡_};
 ghost use Prim.Native.Nat.{_+_, _*_, _^_, _<_, min};
 ghost use lib.ListN.{length, set, getD, drop};
 ghost use lib.Seq.{sets};
 ghost use Rattle.transport.specs.Bytes.{leBytes};
 ghost use Rattle.jobs.specs.Bytes.{leWord, storeWords, storePart, loadWords, patchWord, fromPlace};
-ghost use Rattle.jobs.specs.Change.{rememberedAfter, wordsAfter, bufAfter};
+ghost use Rattle.jobs.specs.Change.{rememberedAfter, wordsAfter, bufAfter, XPSR-THUMB};
 use memap::Op;
 use transport::{Outcome, Remembered};
 
-// `at` is a place in the caller's buffer; `skip` and `count` are bytes of a word.
+// `at` is a place in the caller's buffer, of `Put` one in the row; `skip` and `count` are bytes of a word.
+// `Registers`: what a function starts with, in the row's places 8 to 15.
 pub enum Change {
     Nothing,
     New,
@@ -24,7 +26,12 @@ pub enum Change {
     StorePart { at: u32, skip: u32, count: u32, word: u32 },
     LoadWords { at: u32, n: u32 },
     Patch { at: u32, skip: u32, count: u32, word: u32 },
+    Put { at: u32, word: u32 },
+    Registers { r0: u32, r1: u32, r2: u32, r3: u32, sp: u32, lr: u32, pc: u32 },
 }
+
+// The xPSR that a function starts with: its T bit alone.
+const XPSR_THUMB: u32 = 0x01000000;
 
 // What a call asks for: an operation, or its end.
 pub enum Next {
@@ -51,6 +58,8 @@ pub fn remembered_after(c: Change, r: Remembered) -> Remembered
         Change::StorePart { at: _, skip: _, count: _, word: _ } => r,
         Change::LoadWords { at: _, n: _ } => r,
         Change::Patch { at: _, skip: _, count: _, word: _ } => r,
+        Change::Put { at: _, word: _ } => r,
+        Change::Registers { r0: _, r1: _, r2: _, r3: _, sp: _, lr: _, pc: _ } => r,
     }
 }
 
@@ -244,6 +253,29 @@ pub fn patch(row: &mut [u32], buf: &[u8], at: u32, skip: u32, count: u32, word: 
     }
 }
 
+// A word outside is dropped.
+fn put(row: &mut [u32], i: usize, word: u32)
+    ensures { λ _. ⌜ now (row .exit) ≡ set (now (row .entry)) i word ⌝ }
+{
+    if i < row.len() {
+        row[i] = word;
+    }
+}
+
+// What a function starts with, in the row's places 8 to 15.
+fn put_registers(row: &mut [u32], r0: u32, r1: u32, r2: u32, r3: u32, sp: u32, lr: u32, pc: u32)
+    ensures { λ _. ⌜ now (row .exit) ≡ sets (now (row .entry)) 8 (r0 ∷ r1 ∷ r2 ∷ r3 ∷ sp ∷ lr ∷ pc ∷ XPSR-THUMB ∷ []) ⌝ }
+{
+    put(row, 8, r0);
+    put(row, 9, r1);
+    put(row, 10, r2);
+    put(row, 11, r3);
+    put(row, 12, sp);
+    put(row, 13, lr);
+    put(row, 14, pc);
+    put(row, 15, XPSR_THUMB);
+}
+
 // The row and the buffer after a change.
 pub fn apply(c: Change, row: &mut [u32], buf: &mut [u8])
     ensures { λ _. ⌜ (now (row .exit) ≡ wordsAfter c (now (row .entry)) (now (buf .entry))) × (now (buf .exit) ≡ bufAfter c (now (row .entry)) (now (buf .entry))) ⌝ }
@@ -258,5 +290,7 @@ pub fn apply(c: Change, row: &mut [u32], buf: &mut [u8])
         Change::StorePart { at, skip, count, word } => store_part(buf, at, word, skip, count),
         Change::LoadWords { at, n } => load_words(row, buf, at, n),
         Change::Patch { at, skip, count, word } => patch(row, buf, at, skip, count, word),
+        Change::Put { at, word } => put(row, at as usize, word),
+        Change::Registers { r0, r1, r2, r3, sp, lr, pc } => put_registers(row, r0, r1, r2, r3, sp, lr, pc),
     }
 }

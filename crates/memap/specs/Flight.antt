@@ -25,6 +25,8 @@ use Rattle.memap.specs.declared.Phase.the-variants as P
 use Rattle.memap.specs.declared.Task.{Task}
 use Rattle.memap.specs.declared.Doing.{Doing}
 use Rattle.memap.specs.declared.Started.{Started}
+use Rattle.memap.specs.declared.OpNext.{OpNext}
+use Rattle.memap.specs.declared.OpNext.the-variants as N
 use Rattle.memap.specs.declared.Went.{Went}
 use Rattle.memap.specs.declared.Went.the-variants.{Moving, Finished}
 
@@ -88,6 +90,12 @@ opAfter d k m o = phaseAfter (d .phase) (d .task) (d .left) k m o
 
 abbrev pub startedTree : Started → Then → Memory → Wire
 startedTree s k m = launchedTree m (s .launched) (opAfter (s .doing) k)
+
+abbrev pub nextTree : List ℕ → List ℕ → OpNext → Then → Wire
+nextTree ws b (N.Moving r s) k = startedTree s k (memoryOf r ws b)
+nextTree ws b (N.Finished r o) k = k (memoryOf r ws b) o
+nextTree ws b (N.Pulling r t more) k = pull (t .last) more k (memoryOf r ws b)
+nextTree ws b (N.Pushing r t more) k = push (t .last) more k (memoryOf r ws b)
 
 abbrev pub wentTree : List ℕ → List ℕ → Went → Then → Wire
 wentTree ws b (Moving r s) k = startedTree s k (memoryOf r ws b)

@@ -13,7 +13,7 @@ ghost use Rattle.memap.specs.Action.{Then};
 ghost use Rattle.memap.specs.Ports.{apAccess, dpRead, RDBUFF};
 ghost use Rattle.memap.specs.Words.{pull, push};
 ghost use Rattle.memap.specs.Ops.{perform};
-ghost use Rattle.memap.specs.Flight.{memoryOf, reachAfter, launchedTree, reachedTree, dataAt, atTar, ensuringTask, noTask, phaseAfter, opAfter, startedTree, wentTree};
+ghost use Rattle.memap.specs.Flight.{memoryOf, reachAfter, launchedTree, reachedTree, dataAt, atTar, ensuringTask, noTask, phaseAfter, opAfter, startedTree, nextTree, wentTree};
 use transport::{Answer, Call, Outcome, Remembered, Transfer};
 
 // What follows an access's transfer: while `selecting`, the transfer `request` with `word`.
@@ -134,12 +134,20 @@ pub struct Started {
     pub launched: Launched,
 }
 
+// What comes next in an operation: an access that is begun, its end, or as many more words of a run.
+pub enum OpNext {
+    Moving(Remembered, Started),
+    Finished(Remembered, Outcome),
+    Pulling(Remembered, Task, u32),
+    Pushing(Remembered, Task, u32),
+}
+
 pub enum Went {
     Moving(Remembered, Started),
     Finished(Remembered, Outcome),
 }
 
-fn minus(a: u32, b: u32) -> u32
+pub fn minus(a: u32, b: u32) -> u32
     ensures { λ r. ⌜ r ≡ a - b ⌝ }
 {
     if a < b {
@@ -149,7 +157,7 @@ fn minus(a: u32, b: u32) -> u32
 }
 
 // v at place i of the row; a place outside is dropped.
-fn place_word(row: &mut [u32], i: u32, v: u32)
+pub fn place_word(row: &mut [u32], i: u32, v: u32)
     ensures { λ _. ⌜ now (row .exit) ≡ set (now (row .entry)) i v ⌝ }
 {
     let j = i as usize;
@@ -159,7 +167,7 @@ fn place_word(row: &mut [u32], i: u32, v: u32)
 }
 
 // The word at place i of the row; a place outside reads 0.
-fn word_at(row: &[u32], i: u32) -> u32
+pub fn word_at(row: &[u32], i: u32) -> u32
     ensures { λ r. ⌜ r ≡ getD (now (row .entry)) i 0 ⌝ }
 {
     let j = i as usize;
@@ -178,7 +186,7 @@ fn rdbuff_on(t: Task, phase: Phase) -> Started
 }
 
 // The next access of a run of reads: DRW while `more` are to be asked for, and then RDBUFF.
-fn pull_on(t: Task, more: u32) -> Started
+pub fn pull_on(t: Task, more: u32) -> Started
     ensures { λ r. ⌜ ((k : Then) (m : Memory) → pull (t .last) more k m ≡ startedTree r k m) ⌝ }
 {
     if more == 0 {
@@ -189,7 +197,7 @@ fn pull_on(t: Task, more: u32) -> Started
 }
 
 // The next access of a run of writes: DRW while `more` words are to go, and then RDBUFF.
-fn push_on(t: Task, more: u32, row: &[u32]) -> Started
+pub fn push_on(t: Task, more: u32, row: &[u32]) -> Started
     ensures { λ r. ⌜ ((k : Then) (m : Memory) → m .words ≡ now (row .entry) → push (t .last) more k m ≡ startedTree r k m) ⌝ }
 {
     if more == 0 {
@@ -209,39 +217,39 @@ fn tar_on(r: Remembered, t: Task, n: u32) -> Started
 }
 
 // The first data access of a task.
-fn data_on(r: Remembered, t: Task, n: u32, row: &[u32]) -> Went
-    ensures { λ x. ⌜ ((buf : List ℕ) (k : Then) → dataAt (t .kind) t n k (memoryOf r (now (row .entry)) buf) ≡ wentTree (now (row .entry)) buf x k) ⌝ }
+fn data_on(r: Remembered, t: Task, n: u32, row: &[u32]) -> OpNext
+    ensures { λ x. ⌜ ((buf : List ℕ) (k : Then) → dataAt (t .kind) t n k (memoryOf r (now (row .entry)) buf) ≡ nextTree (now (row .entry)) buf x k) ⌝ }
 {
     let kind = t.kind;
     match kind {
         Kind::ReadWord => {
             let x = access_start(r, 15, 12, 0);
-            Went::Moving(r, Started { doing: Doing { phase: Phase::Posted, left: n, task: t }, launched: x })
+            OpNext::Moving(r, Started { doing: Doing { phase: Phase::Posted, left: n, task: t }, launched: x })
         }
         Kind::WriteWord => {
             let x = access_start(r, 13, 12, t.word);
-            Went::Moving(r, Started { doing: Doing { phase: Phase::Sent, left: n, task: t }, launched: x })
+            OpNext::Moving(r, Started { doing: Doing { phase: Phase::Sent, left: n, task: t }, launched: x })
         }
         Kind::ReadWords => {
             if n == 0 {
-                return Went::Finished(r, Outcome::Value(0));
+                return OpNext::Finished(r, Outcome::Value(0));
             }
             let x = access_start(r, 15, 12, 0);
-            Went::Moving(r, Started { doing: Doing { phase: Phase::First, left: n, task: t }, launched: x })
+            OpNext::Moving(r, Started { doing: Doing { phase: Phase::First, left: n, task: t }, launched: x })
         }
         Kind::WriteWords => {
             let v = word_at(row, minus(t.last, minus(n, 1)));
             let x = access_start(r, 13, 12, v);
-            Went::Moving(r, Started { doing: Doing { phase: Phase::Push, left: n, task: t }, launched: x })
+            OpNext::Moving(r, Started { doing: Doing { phase: Phase::Push, left: n, task: t }, launched: x })
         }
     }
 }
 
 // What an operation does with the outcome of its access.
-fn op_after(r: Remembered, d: Doing, o: Outcome, row: &mut [u32]) -> Went
-    ensures { λ x. ⌜ ((buf : List ℕ) (k : Then) → opAfter d k (memoryOf r (now (row .entry)) buf) o ≡ wentTree (now (row .exit)) buf x k) ⌝ }
+fn op_after(r: Remembered, d: Doing, o: Outcome, row: &mut [u32]) -> OpNext
+    ensures { λ x. ⌜ ((buf : List ℕ) (k : Then) → opAfter d k (memoryOf r (now (row .entry)) buf) o ≡ nextTree (now (row .exit)) buf x k) ⌝ }
 {
-    let f = Went::Finished(r, o);
+    let f = OpNext::Finished(r, o);
     let Outcome::Value(v) = o else {
         return f;
     };
@@ -249,24 +257,24 @@ fn op_after(r: Remembered, d: Doing, o: Outcome, row: &mut [u32]) -> Went
     let phase = d.phase;
     match phase {
         Phase::Only => f,
-        Phase::Unit => Went::Finished(r, Outcome::Value(0)),
-        Phase::Posted => Went::Moving(r, rdbuff_on(t, Phase::Only)),
+        Phase::Unit => OpNext::Finished(r, Outcome::Value(0)),
+        Phase::Posted => OpNext::Moving(r, rdbuff_on(t, Phase::Only)),
         Phase::Csw => {
             let known = Remembered { select: r.select, csw: true, apsel: r.apsel };
-            Went::Moving(known, tar_on(known, t, d.left))
+            OpNext::Moving(known, tar_on(known, t, d.left))
         }
         Phase::Tar => data_on(r, t, d.left, row),
-        Phase::Sent => Went::Moving(r, rdbuff_on(t, Phase::Unit)),
-        Phase::First => Went::Moving(r, pull_on(t, minus(d.left, 1))),
+        Phase::Sent => OpNext::Moving(r, rdbuff_on(t, Phase::Unit)),
+        Phase::First => OpNext::Pulling(r, t, minus(d.left, 1)),
         Phase::Pull => {
             place_word(row, minus(t.last, d.left), v);
-            Went::Moving(r, pull_on(t, minus(d.left, 1)))
+            OpNext::Pulling(r, t, minus(d.left, 1))
         }
         Phase::Last => {
             place_word(row, t.last, v);
-            Went::Finished(r, Outcome::Value(0))
+            OpNext::Finished(r, Outcome::Value(0))
         }
-        Phase::Push => Went::Moving(r, push_on(t, minus(d.left, 1), row)),
+        Phase::Push => OpNext::Pushing(r, t, minus(d.left, 1)),
     }
 }
 
@@ -319,6 +327,31 @@ pub fn op_start(r: Remembered, op: Op) -> Started
     }
 }
 
+// What an operation in flight does with the outcome of its transport call.
+pub fn op_ended(r: Remembered, s: Started, o: Outcome, row: &mut [u32]) -> OpNext
+    ensures { λ x. ⌜ ((buf : List ℕ) (k : Then) → reachAfter (s .launched .reach) (opAfter (s .doing) k) (memoryOf r (now (row .entry)) buf) o ≡ nextTree (now (row .exit)) buf x k) ⌝ }
+{
+    let d = s.doing;
+    let l = s.launched;
+    let reach = l.reach;
+    match reach_after(r, reach, o) {
+        Reached::Going(r2, l2) => OpNext::Moving(r2, Started { doing: d, launched: l2 }),
+        Reached::Over(r2, o2) => op_after(r2, d, o2, row),
+    }
+}
+
+// The next access of an operation is begun.
+fn resumed(n: OpNext, row: &[u32]) -> Went
+    ensures { λ x. ⌜ ((buf : List ℕ) (k : Then) → nextTree (now (row .entry)) buf n k ≡ wentTree (now (row .entry)) buf x k) ⌝ }
+{
+    match n {
+        OpNext::Moving(r, s) => Went::Moving(r, s),
+        OpNext::Finished(r, o) => Went::Finished(r, o),
+        OpNext::Pulling(r, t, more) => Went::Moving(r, pull_on(t, more)),
+        OpNext::Pushing(r, t, more) => Went::Moving(r, push_on(t, more, row)),
+    }
+}
+
 // What an operation in flight does with an answer.
 pub fn op_step(r: Remembered, s: Started, a: Answer, row: &mut [u32]) -> Went
     ensures { λ x. ⌜ ((buf : List ℕ) (k : Then) → follow (startedTree s k (memoryOf r (now (row .entry)) buf)) a ≡ wentTree (now (row .exit)) buf x k) ⌝ }
@@ -329,9 +362,9 @@ pub fn op_step(r: Remembered, s: Started, a: Answer, row: &mut [u32]) -> Went
     let t = l.transfer;
     match transport::transfer_step(t, a) {
         transport::Went::Again(t2) => Went::Moving(r, Started { doing: d, launched: Launched { reach: reach, transfer: t2 } }),
-        transport::Went::Ended(o) => match reach_after(r, reach, o) {
-            Reached::Going(r2, l2) => Went::Moving(r2, Started { doing: d, launched: l2 }),
-            Reached::Over(r2, o2) => op_after(r2, d, o2, row),
-        },
+        transport::Went::Ended(o) => {
+            let n = op_ended(r, s, o, row);
+            resumed(n, row)
+        }
     }
 }

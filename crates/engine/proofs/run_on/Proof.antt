@@ -1,38 +1,65 @@
-use Rattle.engine.specs.Run.{within, Along, Fits, along-none, along-step, spent-at, ended-at, moves-fits}
-use Rattle.engine.specs.Step.{movedTree}
-use Rattle.numbers.specs.Log.{answerOf}
+-- A turn makes the change that the call asks for and runs its operation; what follows the outcome is what the call asks for
+-- next (`call-goes`). It ends with the call, or where no answer is left (`call-stops`).
+use borrow.Author.Needs.{needs}
+use Prim.Native.Nat.{_-_}
+use lib.ListN.{length}
+use Rattle.memap.specs.Flight.{memoryOf}
 use Rattle.transport.specs.Wire.{play}
-use mathlib.Core.List.{map}
-use lib.ListN.{length, take, drop}
-use Prim.Native.Nat.{_-_, _≤_}
+use Rattle.jobs.specs.Job.{exec}
+use Rattle.engine.specs.State.{asksJob}
+use Rattle.engine.specs.Run.{within}
+use Rattle.engine.specs.Along.{Along, rest, along-start, along-same}
+use Rattle.engine.specs.Runs.{asks-end, over-progress, call-goes, call-stops, ended-at, spent-at}
 use native.Mathlib.Omega.{arith}
 use mathlib.Core.Path.{_≡_, refl, _∙_}
-use borrow.Author.Needs.{needs}
 use Rattle.engine.proofs.run_on.Statement.{statement}
 use Rattle.engine.proofs.run_on.Tie as tie
 
 abbrev Inv-loop : tie.InvT-loop
-Inv-loop budget answers ws₀ buf₀ log₀ s₀ n₀ i₀ limit ws buf log s n i = (i ≤ limit) × (length ws ≡ length ws₀) × (length buf ≡ length buf₀) × (length log ≡ length log₀) × Fits n s ws buf × Along i log₀ log (play (movedTree n₀ s₀ ws₀ buf₀) (within budget answers)) (play (movedTree n s ws buf) (map answerOf (drop i (take budget answers))))
+Inv-loop budget answers ws₀ buf₀ log₀ limit r₀ a₀ i₀ ws buf log r a i =
+    (length ws ≡ length ws₀) × (length buf ≡ length buf₀) × (length log ≡ length log₀) × Along i log₀ log (play (exec (asksJob a₀) (memoryOf r₀ ws₀
+      buf₀)) (within budget answers)) (play (exec (asksJob a) (memoryOf r ws buf)) (rest limit answers i))
 
 abbrev μ-loop : tie.MeasureT-loop
-μ-loop budget answers ws₀ buf₀ log₀ s₀ n₀ i₀ limit ws buf log s n i = limit - i
+μ-loop budget answers ws₀ buf₀ log₀ limit r₀ a₀ i₀ ws buf log r a i = limit - i
 
 pub run-on-spec : {M : Type 1} → statement M
 run-on-spec =
     tie.close (tie.spec
-    Inv-loop μ-loop (λ c κs. search needs) (λ c. (search needs, refl, refl, refl, c .before .before .before .before .before .before .pre, along-none _ _))
-    (λ c. search needs) (λ c κs. search needs) (λ c. c .before .before .before .before .before .before .loop .inv .1)
-    (λ c. c .before .before .before .before .before .before .loop .inv .2) (λ c. c .before .before .before .before .before .before .loop .inv .3)
-    (λ c. let l = c .before .before .before .before .before .before .loop in simp (c .before .result-of .ensures) (ended-at (l .s) (l .ws) (l .buf) _ _ _ _ _ _ (simp (c .before .before .before .n .given .1) at (l .inv .5))))
-    (λ c. search needs) (λ c κs. search needs) (λ c. search needs) (λ c. search needs)
-    (λ c. omega (arith, c .before .before .before .before .before .before .before .before .before .before .limit-of .ensures, c .before .before .before .before .before .before .before .before .loop-test .taken))
-    (λ c κs. search needs) (λ c κs. search needs)
-    (λ c. record { fits = omega (arith, c .before .before .before .before .before .before .before .before .before .before .before .before .before .before .before .before .before .before .before .limit-of .ensures, c .before .before .before .before .before .before .before .before .before .before .before .before .before .before .before .before .before .loop-test .taken, c .before .before .before .before .before .before .before .before .before .before .before .before .before .before .before .before .before .before .before .before .before .before .before .before .before .fits .budget .fits) })
-    (λ c. omega (arith, c .before .before .before .before .before .before .before .before .before .before .before .before .before .before .before .before .before .loop-test .taken))
-    (λ c. let l = c .before .before .before .before .before .before .before .before .before .before .before .before .before .before .before .before .before .before .loop in let a = c .before .before .before .before .before .before .before .before .before .before .before .before .before .before .before .before .before .before .before .before .before .before .before .before .before .args in let m = c .before .before .before .before .before .move-on in let n = c .before .before .before .before .before .before .before .before .before .before .before .before .note in let t = c .before .before .before .before .before .before .before .before .before .before .before .before .before .before .before .before .before .loop-test .taken in let g = c .before .before .before .before .before .before .before .before .before .before .before .before .before .before .before .n2 .given .1 in (omega (arith, t), m .kept .1 .1 .0 ∙ l .inv .1, m .kept .1 .1 .1 .0 ∙ l .inv .2, n .kept .0 ∙ l .inv .3, moves-fits _ _ _ _ _ (m .ensures), simp (n .ensures .0) (along-step (l .s) _ (l .ws) (l .buf) _ _ (a .budget) (a .answers .now) (l .i) _ (l .log) _ _ _ (omega (arith, c .before .before .before .before .before .before .before .before .before .before .before .before .before .before .before .before .before .before .before .limit-of .ensures, t)) (simp g at (l .inv .4)) (n .ensures .1) (simp (c .before .before .before .before .before .before .before .before .answer-of .ensures) at (m .ensures)) (simp g at (l .inv .5)))))
-    (λ c. search needs) (λ c κs. search needs) (λ c. search needs) (λ c. c .before .before .before .before .before .before .loop .inv .1)
-    (λ c. c .before .before .before .before .before .before .loop .inv .2) (λ c. c .before .before .before .before .before .before .loop .inv .3)
-    (λ c. let l = c .before .before .before .before .before .before .loop in simp (c .result-of2 .ensures) (ended-at (l .s) (l .ws) (l .buf) _ _ _ _ _ _ (simp (c .before .before .n3 .given .1) at (l .inv .5))))
-    (λ c. c .before .before .before .before .loop .inv .1) (λ c. c .before .before .before .before .loop .inv .2)
-    (λ c. c .before .before .before .before .loop .inv .3)
-    (λ c. let l = c .before .before .before .before .loop in let a = c .before .before .before .before .before .before .before .before .before .before .before .args in spent-at (l .s) (l .ws) (l .buf) (a .budget) (a .answers .now) (l .i) _ (l .log) _ (omega (arith, c .before .before .before .before .before .limit-of .ensures, c .before .before .before .loop-test .left)) (simp (c .enum-told .given .1) at (l .inv .5))))
+    Inv-loop μ-loop (λ c κs. search needs)
+    (λ c. let a = c .before .before .before .before .before .args in (refl, refl, refl, along-start _ (c .limit-of .result) (a .budget) (a .answers .now)
+      _ (c .limit-of .ensures .0)))
+    (λ c κs. search needs) (λ c. search needs) (λ c κs. search needs)
+    (λ c. let b8 = c .before .before .before .before .before .before .before .before in let b11 = b8 .before .before .before in b8 .change .kept .1 .1 .0
+      ∙ b11 .loop .inv .0)
+    (λ c. let b8 = c .before .before .before .before .before .before .before .before in let b11 = b8 .before .before .before in b8 .change .kept .1 .1 .1
+      .0 ∙ b11 .loop .inv .1)
+    (λ c. c .before .before .before .before .before .before .before .before .before .before .before .loop .inv .2)
+    (λ c. let b8 = c .before .before .before .before .before .before .before .before in let b11 = b8 .before .before .before in let l = b11 .loop in simp
+      (c .result-of .ensures) (ended-at (l .i) _ (l .log) _ _ _ _ _ _ (along-same _ _ _ _ _ _ _ (asks-end (l .a) _ _ _ (b8 .change .ensures) (c .before
+      .before .n .given .1)) (l .inv .3))))
+    (λ c. search needs)
+    (λ c κs. c .before .before .before .before .before .before .before .before .before .before .before .before .before .limit-of .ensures .1)
+    (λ c. search needs)
+    (λ c. let b7 = c .before .before .before .before .before .before .before in let b17 = b7 .before .before .before .before .before .before .before
+      .before .before .before in let b20 = b17 .before .before .before in b7 .run-op .kept .1 .1 .1 .1 .1 .0 ∙ b17 .change .kept .1 .1 .0 ∙ b20 .loop .inv
+      .0)
+    (λ c. let b17 = c .before .before .before .before .before .before .before .before .before .before .before .before .before .before .before .before
+      .before in let b20 = b17 .before .before .before in b17 .change .kept .1 .1 .1 .0 ∙ b20 .loop .inv .1)
+    (λ c. let b7 = c .before .before .before .before .before .before .before in let b20 = b7 .before .before .before .before .before .before .before
+      .before .before .before .before .before .before in b7 .run-op .kept .1 .1 .1 .1 .1 .1 .0 ∙ b20 .loop .inv .2)
+    (λ c. let b7 = c .before .before .before .before .before .before .before in let b11 = b7 .before .before .before .before in let b17 = b11 .before
+      .before .before .before .before .before in let b20 = b17 .before .before .before in let b26 = b20 .before .before .before .before .before .before in
+      let l = b20 .loop in let a = b26 .args in spent-at _ _ _ _ _ _ _ (call-stops (l .a) _ _ _ _ _ _ (a .answers .now) (l .i) _ (l .log) _ _ _ _ (b17
+      .change .ensures) (b11 .n2 .given .1) (b7 .run-op .ensures) (c .enum-told .given .1) (l .inv .3)))
+    (λ c. search needs) (λ c κs. search needs)
+    (λ c. let b9 = c .before .before .before .before .before .before .before .before .before in let b22 = b9 .before .before .before .before .before
+      .before .before .before .before .before .before .before .before in let b28 = b22 .before .before .before .before .before .before in let l = b22
+      .loop in let a = b28 .args in let g = over-progress _ (l .i) _ _ _ (c .before .before .end .given .1) (b9 .run-op .ensures .0) in omega (arith, g
+      .0, g .1))
+    (λ c. let b9 = c .before .before .before .before .before .before .before .before .before in let b13 = b9 .before .before .before .before in let b19 =
+      b13 .before .before .before .before .before .before in let b22 = b19 .before .before .before in let b28 = b22 .before .before .before .before
+      .before .before in let l = b22 .loop in let a = b28 .args in let g = over-progress _ (l .i) _ _ _ (c .before .before .end .given .1) (b9 .run-op
+      .ensures .0) in (b9 .run-op .kept .1 .1 .1 .1 .1 .0 ∙ b19 .change .kept .1 .1 .0 ∙ l .inv .0, b19 .change .kept .1 .1 .1 .0 ∙ l .inv .1, b9 .run-op
+      .kept .1 .1 .1 .1 .1 .1 .0 ∙ l .inv .2, call-goes (l .a) _ _ _ _ _ _ (a .answers .now) (l .i) _ (l .log) _ _ _ _ _ (c .call-after .result) (b19
+      .change .ensures) (b13 .n2 .given .1) (b9 .run-op .ensures) (c .before .before .end .given .1) (c .call-after .ensures) (l .inv .3))))

@@ -1,5 +1,5 @@
 use Rattle.engine.specs.declared.State.{State}
-use Rattle.engine.specs.Step.{numbered-steps}
+use Rattle.engine.specs.StepLaws.{numbered-steps}
 use mathlib.Core.Path.{refl, ap, _∙_}
 use borrow.Author.Needs.{needs}
 use Rattle.engine.proofs.step.Statement.{statement}

@@ -1,0 +1,5 @@
+pub mod Cortex
+pub mod Core
+pub mod Function
+pub mod After
+pub mod Turns
