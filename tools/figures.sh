@@ -1,8 +1,8 @@
 #!/bin/sh
 # Lines by crate: code, believed definitions, other specs (they serve proofs only), proofs, must-fail edits.
-# Blank lines and lines of comment only are not counted. A spec file is believed unless its header says otherwise.
-# Usage: tools/figures.sh          lines
-#        tools/figures.sh times    the seconds that `rt ci` took for each crate, from its log in target/log
+# Blank lines and lines of comment only are not counted. A spec file is believed unless its header says that it serves the
+# proofs, or it holds laws or proved cases.
+# Usage: tools/figures.sh
 set -eu
 cd "$(dirname "$0")/.."
 count() { cat /dev/null "$@" 2>/dev/null | grep -vcE '^[[:space:]]*(//|--|$)' || true; }
@@ -13,7 +13,10 @@ sed -n 's/^\([a-z_0-9]*\):.*/\1/p' crates.txt | while read -r crate; do
     believed= other=
     for file in "$dir"/specs/*.antt; do
         [ -f "$file" ] || continue
-        if head -n 3 "$file" | grep -qi 'serve[s]* the proofs'; then other="$other $file"; else believed="$believed $file"; fi
+        case $file in
+            *Laws.antt | */Expected.antt | */Cases.antt | crates/cases/*) other="$other $file" ;;
+            *) if head -n 3 "$file" | grep -qi 'serves* the proofs'; then other="$other $file"; else believed="$believed $file"; fi ;;
+        esac
     done
     # shellcheck disable=SC2086
     printf '%-14s %6s %9s %6s %7s %6s\n' "$crate" "$(count "$dir"/src/*.rt)" "$(count $believed)" "$(count $other)" \

@@ -170,15 +170,6 @@ const BKPT_TWICE: u32 = 0xBE00BE00;
 const POLLS: u32 = 4096;
 const LOOKS: u32 = 64;
 
-fn minus(a: u32, b: u32) -> u32
-    ensures { λ r. ⌜ r ≡ a - b ⌝ }
-{
-    if a < b {
-        return 0;
-    }
-    a - b
-}
-
 // The register at place i of a frame.
 fn register_at(i: u32) -> u8
     ensures { λ r. ⌜ r ≡ getD clobbered i 0 ⌝ }
@@ -270,7 +261,7 @@ fn doing(at: CoreAt, op: Op) -> CoreAsks
 fn entry_of(s: Search) -> u32
     ensures { λ r. ⌜ r ≡ entryOf s ⌝ }
 {
-    (s.table as u32) + 4 * minus(ENTRIES as u32, s.left as u32)
+    (s.table as u32) + 4 * memap::minus(ENTRIES as u32, s.left as u32)
 }
 
 // The four bytes from byte `skip` of one word on, the rest of them in the word after it.
@@ -325,7 +316,7 @@ fn matched(s: Search, entry: u32) -> CoreAsks
     if tag == s.want {
         return ended(Outcome::Value(entry / 0x10000));
     }
-    let left = minus(s.left as u32, 1);
+    let left = memap::minus(s.left as u32, 1);
     find_next(Search { want: s.want, table: s.table, left: left as u16 })
 }
 
@@ -357,7 +348,7 @@ fn save_on(change: Change, left: u32, plan: Plan) -> CoreAsks
         let t = plan.trampoline;
         return writing(change, CoreAt::Run { step: RunStep::Planted, left: 0, plan: plan }, t - t % 4, BKPT_TWICE);
     }
-    let reg = register_at(minus(8, left));
+    let reg = register_at(memap::minus(8, left));
     let then = Then::Save { left: left, plan: plan };
     writing(change, CoreAt::Access { at: AccessAt::Asked(Wait::Read), then: then }, DCRSR, reg as u32)
 }
@@ -384,7 +375,7 @@ fn set_on(left: u32, plan: Plan) -> CoreAsks
     if left == 0 {
         return running(RunStep::Masked, plan, MASKED + C_HALT);
     }
-    let i = minus(8, left);
+    let i = memap::minus(8, left);
     register_set(i, Then::Set { left: left, plan: plan }, 8 + i)
 }
 
@@ -395,7 +386,7 @@ fn restore_on(left: u32, value: u32) -> CoreAsks
     if left == 0 {
         return ended(Outcome::Value(value));
     }
-    let i = minus(8, left);
+    let i = memap::minus(8, left);
     register_set(i, Then::Restore { left: left, value: value }, i)
 }
 
@@ -405,10 +396,10 @@ fn then_on(t: Then, v: u32) -> CoreAsks
 {
     match t {
         Then::End => ended(Outcome::Value(v)),
-        Then::Save { left, plan } => save_on(Change::Put { at: minus(8, left), word: v }, minus(left, 1), plan),
-        Then::Set { left, plan } => set_on(minus(left, 1), plan),
+        Then::Save { left, plan } => save_on(Change::Put { at: memap::minus(8, left), word: v }, memap::minus(left, 1), plan),
+        Then::Set { left, plan } => set_on(memap::minus(left, 1), plan),
         Then::Result => restore_on(8, v),
-        Then::Restore { left, value } => restore_on(minus(left, 1), value),
+        Then::Restore { left, value } => restore_on(memap::minus(left, 1), value),
     }
 }
 

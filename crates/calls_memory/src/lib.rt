@@ -59,15 +59,6 @@ pub struct MemoryAsks {
 // As many addresses as a target has: 2^32.
 const ADDRESSES: usize = 0x100000000;
 
-fn minus(a: u32, b: u32) -> u32
-    ensures { λ r. ⌜ r ≡ a - b ⌝ }
-{
-    if a < b {
-        return 0;
-    }
-    a - b
-}
-
 // `left` bytes less `n` words.
 fn minus_words(left: u32, n: u32) -> u32
     ensures { λ r. ⌜ r ≡ left - 4 * n ⌝ }
@@ -113,14 +104,14 @@ fn move_run(read: bool, m: Mem) -> MemoryAsks
     ensures { λ r. ⌜ moveRun read (addrOf m) (placeOf m) (m .size) (rest read m) ≡ asks (r .change) (r .next) (memoryAfter (r .at)) ⌝ }
     ensures { λ r. ⌜ (read ≡ true → r .change ≡ Nothing) ⌝ }
 {
-    let addr = minus(m.stop, m.left);
+    let addr = memap::minus(m.stop, m.left);
     let n = m.size;
-    let last = minus(n, 1);
+    let last = memap::minus(n, 1);
     if read {
         let op = Op::ReadWords { addr: addr, n: n, last: last };
         return MemoryAsks { change: Change::Nothing, at: MemoryAt::ReadRun(m), next: Next::Do(op) };
     }
-    let load = Change::LoadWords { at: minus(m.len, m.left), n: n };
+    let load = Change::LoadWords { at: memap::minus(m.len, m.left), n: n };
     let op = Op::WriteWords { addr: addr, n: n, last: last };
     MemoryAsks { change: load, at: MemoryAt::WriteRun(m), next: Next::Do(op) }
 }
@@ -130,7 +121,7 @@ fn move_bytes(read: bool, m: Mem) -> MemoryAsks
     ensures { λ r. ⌜ moveBytes read (addrOf m) (placeOf m) (m .size) (rest read m) ≡ asks (r .change) (r .next) (memoryAfter (r .at)) ⌝ }
     ensures { λ r. ⌜ (read ≡ true → r .change ≡ Nothing) ⌝ }
 {
-    let addr = minus(m.stop, m.left);
+    let addr = memap::minus(m.stop, m.left);
     let op = Op::ReadWord { addr: addr - addr % 4 };
     if read {
         return MemoryAsks { change: Change::Nothing, at: MemoryAt::ReadPart(m), next: Next::Do(op) };
@@ -146,7 +137,7 @@ fn mem_on(read: bool, stop: u32, len: u32, left: u32) -> MemoryAsks
     if left == 0 {
         return MemoryAsks { change: Change::Nothing, at: MemoryAt::Whole, next: Next::End(Outcome::Value(0)) };
     }
-    let addr = minus(stop, left);
+    let addr = memap::minus(stop, left);
     let part = Mem { stop: stop, len: len, left: left, size: smaller(4 - addr % 4, left) };
     if addr % 4 != 0 {
         return move_bytes(read, part);
@@ -165,7 +156,7 @@ fn read_words(addr: u32, words: usize) -> MemoryAsks
         return ended(Outcome::Failed(ArmError::Range));
     }
     let n = words as u32;
-    whole(Op::ReadWords { addr: addr, n: n, last: minus(n, 1) })
+    whole(Op::ReadWords { addr: addr, n: n, last: memap::minus(n, 1) })
 }
 
 fn write_words(addr: u32, words: usize) -> MemoryAsks
@@ -226,7 +217,7 @@ fn stored(change: Change, stop: u32, len: u32, left: u32) -> MemoryAsks
 fn run_read(m: Mem) -> MemoryAsks
     ensures { λ r. ⌜ goesOn (ReadRun m) 0 ≡ asks (r .change) (r .next) (memoryAfter (r .at)) ⌝ }
 {
-    let place = minus(m.len, m.left);
+    let place = memap::minus(m.len, m.left);
     stored(Change::StoreWords { at: place, n: m.size }, m.stop, m.len, minus_words(m.left, m.size))
 }
 
@@ -234,18 +225,18 @@ fn run_read(m: Mem) -> MemoryAsks
 fn part_read(m: Mem, word: u32) -> MemoryAsks
     ensures { λ r. ⌜ goesOn (ReadPart m) word ≡ asks (r .change) (r .next) (memoryAfter (r .at)) ⌝ }
 {
-    let skip = minus(m.stop, m.left) % 4;
-    let place = minus(m.len, m.left);
-    stored(Change::StorePart { at: place, skip: skip, count: m.size, word: word }, m.stop, m.len, minus(m.left, m.size))
+    let skip = memap::minus(m.stop, m.left) % 4;
+    let place = memap::minus(m.len, m.left);
+    stored(Change::StorePart { at: place, skip: skip, count: m.size, word: word }, m.stop, m.len, memap::minus(m.left, m.size))
 }
 
 // A part of the word that was read is replaced, and the word is written back.
 fn patched(m: Mem, word: u32) -> MemoryAsks
     ensures { λ r. ⌜ goesOn (PartRead m) word ≡ asks (r .change) (r .next) (memoryAfter (r .at)) ⌝ }
 {
-    let addr = minus(m.stop, m.left);
+    let addr = memap::minus(m.stop, m.left);
     let skip = addr % 4;
-    let place = minus(m.len, m.left);
+    let place = memap::minus(m.len, m.left);
     let patch = Change::Patch { at: place, skip: skip, count: m.size, word: word };
     let op = Op::WriteWords { addr: addr - skip, n: 1, last: 0 };
     MemoryAsks { change: patch, at: MemoryAt::PartWritten(m), next: Next::Do(op) }
@@ -263,7 +254,7 @@ pub fn call_after(p: MemoryAt, o: Outcome) -> MemoryAsks
             MemoryAt::ReadPart(m) => part_read(m, v),
             MemoryAt::WriteRun(m) => mem_on(false, m.stop, m.len, minus_words(m.left, m.size)),
             MemoryAt::PartRead(m) => patched(m, v),
-            MemoryAt::PartWritten(m) => mem_on(false, m.stop, m.len, minus(m.left, m.size)),
+            MemoryAt::PartWritten(m) => mem_on(false, m.stop, m.len, memap::minus(m.left, m.size)),
         },
     }
 }

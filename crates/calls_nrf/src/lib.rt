@@ -71,15 +71,6 @@ pub struct NrfAsks {
 // As many addresses as a target has: 2^32.
 const ADDRESSES: usize = 0x100000000;
 
-fn minus(a: u32, b: u32) -> u32
-    ensures { λ r. ⌜ r ≡ a - b ⌝ }
-{
-    if a < b {
-        return 0;
-    }
-    a - b
-}
-
 // The address n words below `stop`.
 fn words_below(stop: u32, n: u32) -> u32
     ensures { λ r. ⌜ r ≡ stop - 4 * n ⌝ }
@@ -270,8 +261,8 @@ fn words_on(chip: Chip, p: Program) -> NrfAsks
     }
     let addr = words_below(p.stop, p.left);
     let n = tar_run(addr, p.left);
-    let more = minus(n, 1);
-    let place = minus(p.len, p.left);
+    let more = memap::minus(n, 1);
+    let place = memap::minus(p.len, p.left);
     let then = Flash::Words(Program { stop: p.stop, len: p.len, left: p.left - 1 - more, polls: p.polls });
     settled(chip, then, p.polls, Op::WriteWords { addr: addr, n: n, last: place + more })
 }
