@@ -1,4 +1,4 @@
--- The bits of the fixed sequences and the bytes that a transport call hands over (000: swd_line_reset to write_targetsel; ADIv5.2, B5.2 and B5.3).
+-- The bits of the fixed sequences and the bytes that a transport call hands over (000: swd_line_reset to write_targetsel).
 use Prim.Native.Nat.{ℕ, _+_, _-_, _/_, _%_}
 use mathlib.Core.List.{List, [], _∷_, _++_}
 use lib.ListN.{length, replicate, take}
