@@ -3,7 +3,7 @@
 # Usage: tools/compare.sh N [SEED]
 # DAPSCRIPT names another program, ARM_DEBUG_SRC another folder of the Rust.
 set -eu
-calls=1-14
+calls=1-35
 count=${1:?usage: tools/compare.sh N [SEED]}
 seed=${2:-$(date +%s)}
 cd "$(dirname "$0")/.."

@@ -13,6 +13,9 @@ use Rattle.jobs.specs.Job.{Job}
 use Rattle.jobs.specs.Asks.{asks, thenOf}
 use Rattle.calls_connect.specs.After.{connectAfter}
 use Rattle.calls_memory.specs.After.{memoryAfter}
+use Rattle.calls_core.specs.After.{coreAfter}
+use Rattle.calls_fpb.specs.After.{fpbAfter}
+use Rattle.calls_nrf.specs.After.{nrfAfter}
 use Rattle.engine.specs.declared.At.{At}
 use Rattle.engine.specs.declared.At.the-variants as A
 use Rattle.engine.specs.declared.Asks.{Asks}
@@ -22,6 +25,9 @@ use Rattle.engine.specs.declared.State.{State}
 abbrev pub callAfter : At → Outcome → Job
 callAfter (A.Connect p) o = connectAfter p o
 callAfter (A.Memory p) o = memoryAfter p o
+callAfter (A.Core p) o = coreAfter p o
+callAfter (A.Fpb p) o = fpbAfter p o
+callAfter (A.Nrf p) o = nrfAfter p o
 
 abbrev pub asksJob : Asks → Job
 asksJob r = asks (r .change) (r .next) (callAfter (r .at))

@@ -7,7 +7,8 @@
 ghost use mathlib.Core.Path.{_≡_};
 ghost use mathlib.Core.List.{List};
 ghost use Prim.Native.Nat.{ℕ, _≤_};
-ghost use lib.ListN.{length, replicate, take};
+ghost use lib.ListN.{length, take};
+ghost use lib.Seq.{sets};
 ghost use Rattle.transport.specs.Wire.{follow, play};
 ghost use Rattle.memap.specs.Words.{pull, push};
 ghost use Rattle.memap.specs.Ops.{perform};
@@ -15,14 +16,17 @@ ghost use Rattle.memap.specs.Flight.{memoryOf, startedTree};
 ghost use Rattle.jobs.specs.Change.{changed};
 ghost use Rattle.jobs.specs.Job.{exec};
 ghost use Rattle.jobs.specs.Asks.{thenOf, nextJob};
-ghost use Rattle.engine.specs.Calls.{jobOf, lentWords, lent, pick, callTree};
+ghost use Rattle.engine.specs.Calls.{jobOf, lentWords, lentFlash, lent, pick, callTree, frameOf, coreFrame, frameFor, rowWith, leave, rowFor};
 ghost use Rattle.engine.specs.State.{callAfter, asksJob, stateTree, dueOf};
 ghost use Rattle.engine.specs.StepLaws.{Moves, Numbered};
 ghost use Rattle.engine.specs.Step.{Lent};
 ghost use Rattle.engine.specs.Run.{within, Reports, RanAs};
 ghost use Rattle.engine.specs.Runs.{TransferRuns, OpRuns, AheadRuns};
 use calls_connect::{ConnectAt, ConnectCall};
+use calls_core::{CoreAt, CoreCall};
+use calls_fpb::{FpbAt, FpbCall};
 use calls_memory::{MemoryAt, MemoryCall};
+use calls_nrf::{NrfAt, NrfCall};
 use jobs::{Change, Next};
 use memap::{Op, OpNext, Started, Went};
 use numbers::{CallEnding, TransportCall};
@@ -32,12 +36,18 @@ use transport::{Answer, Call, Mode, Outcome, Remembered, Transfer};
 pub enum EngineCall {
     Connect(ConnectCall),
     Memory(MemoryCall),
+    Core(CoreCall),
+    Fpb(FpbCall),
+    Nrf(NrfCall),
 }
 
 // Which operation of a call is in flight.
 pub enum At {
     Connect(ConnectAt),
     Memory(MemoryAt),
+    Core(CoreAt),
+    Fpb(FpbAt),
+    Nrf(NrfAt),
 }
 
 pub struct Asks {
@@ -94,6 +104,27 @@ fn call_after(p: At, o: Outcome) -> Asks
             let next = a.next;
             Asks { change: change, at: At::Memory(at), next: next }
         }
+        At::Core(q) => {
+            let a = calls_core::call_after(q, o);
+            let change = a.change;
+            let at = a.at;
+            let next = a.next;
+            Asks { change: change, at: At::Core(at), next: next }
+        }
+        At::Fpb(q) => {
+            let a = calls_fpb::call_after(q, o);
+            let change = a.change;
+            let at = a.at;
+            let next = a.next;
+            Asks { change: change, at: At::Fpb(at), next: next }
+        }
+        At::Nrf(q) => {
+            let a = calls_nrf::call_after(q, o);
+            let change = a.change;
+            let at = a.at;
+            let next = a.next;
+            Asks { change: change, at: At::Nrf(at), next: next }
+        }
     }
 }
 
@@ -115,6 +146,27 @@ fn call_start(c: EngineCall, words: usize, bytes: usize) -> Asks
             let at = a.at;
             let next = a.next;
             Asks { change: change, at: At::Memory(at), next: next }
+        }
+        EngineCall::Core(q) => {
+            let a = calls_core::start(q);
+            let change = a.change;
+            let at = a.at;
+            let next = a.next;
+            Asks { change: change, at: At::Core(at), next: next }
+        }
+        EngineCall::Fpb(q) => {
+            let a = calls_fpb::start(q);
+            let change = a.change;
+            let at = a.at;
+            let next = a.next;
+            Asks { change: change, at: At::Fpb(at), next: next }
+        }
+        EngineCall::Nrf(q) => {
+            let a = calls_nrf::start(q, words);
+            let change = a.change;
+            let at = a.at;
+            let next = a.next;
+            Asks { change: change, at: At::Nrf(at), next: next }
         }
     }
 }
@@ -231,12 +283,29 @@ fn owns_words(c: MemoryCall) -> bool
     }
 }
 
+fn owns_flash(c: NrfCall) -> bool
+    ensures { λ r. ⌜ r ≡ lentFlash c ⌝ }
+{
+    match c {
+        NrfCall::Nrf52ApprotectStatus => false,
+        NrfCall::Nrf52EraseAll(_) => false,
+        NrfCall::Nrf52ErasePage { .. } => false,
+        NrfCall::Nrf52Program { .. } => true,
+        NrfCall::Nrf54ApprotectStatus => false,
+        NrfCall::Nrf54EraseAll(_) => false,
+        NrfCall::Nrf54Program { .. } => true,
+    }
+}
+
 fn owns(c: EngineCall) -> bool
     ensures { λ r. ⌜ r ≡ lent c ⌝ }
 {
     match c {
         EngineCall::Connect(_) => false,
         EngineCall::Memory(q) => owns_words(q),
+        EngineCall::Core(_) => false,
+        EngineCall::Fpb(_) => false,
+        EngineCall::Nrf(q) => owns_flash(q),
     }
 }
 
@@ -263,6 +332,13 @@ pub fn step(s: State, a: Answer, row: &mut [u32; 64], words: &mut [u32], buf: &m
     }
     let m = move_on(s, a, row, buf);
     numbered(m)
+}
+
+// What `run` does with the caller's first eight words: call 24 finds its frame there, call 23 leaves it there.
+pub enum Frame {
+    Nowhere,
+    Found,
+    Left,
 }
 
 // What a run leaves: how many transport calls it made, how it ended, what is remembered.
@@ -480,9 +556,79 @@ fn run_on(before: Remembered, start: Asks, budget: u32, answers: &[u64], ws: &mu
     }
 }
 
+fn core_frame(c: CoreCall) -> Frame
+    ensures { λ r. ⌜ r ≡ coreFrame c ⌝ }
+{
+    match c {
+        CoreCall::DebugEnable => Frame::Nowhere,
+        CoreCall::Halt => Frame::Nowhere,
+        CoreCall::Resume => Frame::Nowhere,
+        CoreCall::Step => Frame::Nowhere,
+        CoreCall::IsHalted => Frame::Nowhere,
+        CoreCall::ReadCoreReg(_) => Frame::Nowhere,
+        CoreCall::WriteCoreReg(_, _) => Frame::Nowhere,
+        CoreCall::RomFuncLookup(_, _) => Frame::Nowhere,
+        CoreCall::StartFunction(_) => Frame::Left,
+        CoreCall::FinishFunction(_) => Frame::Found,
+        CoreCall::CallFunction(_, _) => Frame::Nowhere,
+    }
+}
+
+fn frame_for(c: EngineCall) -> Frame
+    ensures { λ r. ⌜ r ≡ frameFor c ⌝ }
+{
+    match c {
+        EngineCall::Connect(_) => Frame::Nowhere,
+        EngineCall::Memory(_) => Frame::Nowhere,
+        EngineCall::Core(q) => core_frame(q),
+        EngineCall::Fpb(_) => Frame::Nowhere,
+        EngineCall::Nrf(_) => Frame::Nowhere,
+    }
+}
+
+// A frame from the first eight places of one list to those of another.
+fn copy_frame(from: &[u32], to: &mut [u32])
+    ensures { λ _. ⌜ now (to .exit) ≡ sets (now (to .entry)) 0 (frameOf (now (from .entry))) ⌝ }
+{
+    memap::place_word(to, 0, memap::word_at(from, 0));
+    memap::place_word(to, 1, memap::word_at(from, 1));
+    memap::place_word(to, 2, memap::word_at(from, 2));
+    memap::place_word(to, 3, memap::word_at(from, 3));
+    memap::place_word(to, 4, memap::word_at(from, 4));
+    memap::place_word(to, 5, memap::word_at(from, 5));
+    memap::place_word(to, 6, memap::word_at(from, 6));
+    memap::place_word(to, 7, memap::word_at(from, 7));
+}
+
+// The row that a call runs over: zeros, and the frame that it finds.
+fn row_for(f: Frame, words: &[u32]) -> [u32; 64]
+    ensures { λ r. ⌜ r ≡ rowWith f (now (words .entry)) ⌝ }
+{
+    match f {
+        Frame::Nowhere => [0u32; 64],
+        Frame::Found => {
+            let mut row = [0u32; 64];
+            copy_frame(words, &mut row);
+            row
+        }
+        Frame::Left => [0u32; 64],
+    }
+}
+
+// The frame that a call leaves goes to the caller's words.
+fn keep_frame(f: Frame, row: &[u32], words: &mut [u32])
+    ensures { λ _. ⌜ now (words .exit) ≡ leave f (now (row .entry)) (now (words .entry)) ⌝ }
+{
+    match f {
+        Frame::Nowhere => {}
+        Frame::Found => {}
+        Frame::Left => copy_frame(row, words),
+    }
+}
+
 // A whole call over a budget of answers. The log gets each transport call's number, as far as it reaches.
 pub fn run(r: Remembered, c: EngineCall, budget: u32, answers: &[u64], words: &mut [u32], buf: &mut [u8], log: &mut [u64]) -> Ran
-    ensures { λ x. ⌜ RanAs (lent c) (play (callTree c r (replicate 64 0) (now (words .entry)) (now (buf .entry))) (within budget (now (answers .entry)))) x (now (words .entry)) (now (words .exit)) (now (buf .exit)) (now (log .entry)) (now (log .exit)) ⌝ }
+    ensures { λ x. ⌜ RanAs c (play (callTree c r (rowFor c (now (words .entry))) (now (words .entry)) (now (buf .entry))) (within budget (now (answers .entry)))) x (now (words .entry)) (now (words .exit)) (now (buf .exit)) (now (log .entry)) (now (log .exit)) ⌝ }
 {
     let n = words.len();
     let m = buf.len();
@@ -490,6 +636,9 @@ pub fn run(r: Remembered, c: EngineCall, budget: u32, answers: &[u64], words: &m
     if owns(c) {
         return run_on(r, a, budget, answers, words, buf, log);
     }
-    let mut row = [0u32; 64];
-    run_on(r, a, budget, answers, &mut row, buf, log)
+    let f = frame_for(c);
+    let mut row = row_for(f, words);
+    let ran = run_on(r, a, budget, answers, &mut row, buf, log);
+    keep_frame(f, &row, words);
+    ran
 }

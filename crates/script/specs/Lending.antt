@@ -15,15 +15,17 @@ abbrev pub wordCount : Buffer → ℕ → ℕ
 wordCount B.Nothing n = 0
 wordCount (B.Words k) n = k
 wordCount (B.Bytes k) n = 0
-wordCount B.GivenWords n = (n - 4) / 4
+wordCount (B.GivenWords size) n = (n - size) / 4
 wordCount B.GivenBytes n = 0
+wordCount B.Frame n = 8
 
 abbrev pub byteCount : Buffer → ℕ → ℕ
 byteCount B.Nothing n = 0
 byteCount (B.Words k) n = 0
 byteCount (B.Bytes k) n = k
-byteCount B.GivenWords n = 0
+byteCount (B.GivenWords size) n = 0
 byteCount B.GivenBytes n = n - 4
+byteCount B.Frame n = 0
 
 -- zeros, shut so that no proof computes thousands of them
 unfoldable pub zeros : ℕ → List ℕ
@@ -55,15 +57,15 @@ module _ {b : Buffer} {a ws bs : List ℕ} (z : Zeros b a ws bs) where
   byte-length : length bs ≡ byteCount b (length a)
   byte-length = ap length (z .buf) ∙ length-replicate (byteCount b (length a)) 0
 
-  pub few-words : b ≡ B.GivenWords → length ws ≡ (length a - 4) / 4
+  pub few-words : {size : ℕ} → b ≡ B.GivenWords size → length ws ≡ (length a - size) / 4
   few-words e = rw e at word-length
 
   pub few-bytes : b ≡ B.GivenBytes → length bs ≡ length a - 4
   few-bytes e = rw e at byte-length
 
-  pub given-words : (w : List ℕ) → b ≡ B.GivenWords → w ≡ row (word a) 4 (length ws) 4 → (w ≡ wordsOf b a) × (bs ≡ bytesOf b a)
+  pub given-words : {size : ℕ} (w : List ℕ) → b ≡ B.GivenWords size → w ≡ row (word a) 4 (length ws) size → (w ≡ wordsOf b a) × (bs ≡ bytesOf b a)
   unfolding wordsOf bytesOf
-  given-words w e h = rw e (h ∙ ap (λ (n : ℕ). row (word a) 4 n 4) (few-words e), rw e at (z .buf))
+  given-words {size} w e h = rw e (h ∙ ap (λ (n : ℕ). row (word a) 4 n size) (few-words e), rw e at (z .buf))
 
   pub given-bytes : (w : List ℕ) → b ≡ B.GivenBytes → w ≡ drop 4 a → (ws ≡ wordsOf b a) × (w ≡ bytesOf b a)
   unfolding wordsOf bytesOf
@@ -80,3 +82,7 @@ module _ {b : Buffer} {a ws bs : List ℕ} (z : Zeros b a ws bs) where
   pub zero-bytes : {n : ℕ} → b ≡ B.Bytes n → (ws ≡ wordsOf b a) × (bs ≡ bytesOf b a)
   unfolding wordsOf bytesOf
   zero-bytes e = rw e (rw e at (z .words), rw e at (z .buf))
+
+  pub zero-frame : b ≡ B.Frame → (ws ≡ wordsOf b a) × (bs ≡ bytesOf b a)
+  unfolding wordsOf bytesOf
+  zero-frame e = rw e (rw e at (z .words), rw e at (z .buf))

@@ -3,7 +3,7 @@ use Prim.Native.Nat.{ℕ, _+_, _-_, _≤_}
 use mathlib.Core.Path.{_≡_, refl, ap, sym, subst, _∙_}
 use mathlib.Core.List.{List, [], _∷_, _++_, map}
 use native.Mathlib.Omega.{arith}
-use lib.ListN.{length, take, drop, replicate, length-take, length-map}
+use lib.ListN.{length, take, drop, length-take, length-map}
 use lib.Seq.{sets, sets-eq, take-at, length-sets}
 use Rattle.transport.specs.Wire.{Wire, done, ask, tell, Played, play}
 use Rattle.transport.specs.declared.Answer.{Answer}
@@ -12,7 +12,7 @@ use Rattle.numbers.specs.Log.{codeOf, callOf, answerOf}
 use Rattle.jobs.specs.Change.{fresh}
 use Rattle.engine.specs.declared.EngineCall.{EngineCall}
 use Rattle.engine.specs.declared.Ran.{Ran}
-use Rattle.engine.specs.Calls.{callTree, lent}
+use Rattle.engine.specs.Calls.{callTree, rowFor}
 use Rattle.engine.specs.Run.{within, RanAs}
 use Rattle.listing.specs.Listing.{callLines, resultLine}
 use Rattle.script.specs.declared.Buffer.{Buffer}
@@ -37,15 +37,15 @@ front : (l t : List ℕ) → length t ≤ length l → take (length t) (sets l 0
 front l t h = ap (λ (x : List ℕ). take (length t) x) (sets-eq t l 0 (omega arith)) ∙ take-at t _ (length t) refl
 
 module _ (c : EngineCall) (b : Buffer) (words₀ buf₀ answers : List ℕ) {r : Ran} {words buf l₀ l : List ℕ}
-    (h : RanAs (lent c) (play (callTree c fresh (replicate 64 0) words₀ buf₀) (within (length answers) answers)) r words₀ words buf l₀ l)
+    (h : RanAs c (play (callTree c fresh (rowFor c words₀) words₀ buf₀) (within (length answers) answers)) r words₀ words buf l₀ l)
     (fits : length answers ≤ length l₀) where
   run : Played
-  run = play (callTree c fresh (replicate 64 0) words₀ buf₀) (within (length answers) answers)
+  run = play (callTree c fresh (rowFor c words₀) words₀ buf₀) (within (length answers) answers)
 
   pub count-most : r .count ≤ length answers
   unfolding run
   count-most =
-      omega (arith, h .count, play-most (callTree c fresh (replicate 64 0) words₀ buf₀) (within (length answers) answers),
+      omega (arith, h .count, play-most (callTree c fresh (rowFor c words₀) words₀ buf₀) (within (length answers) answers),
         length-map (take (length answers) answers) answerOf, length-take (length answers) answers)
 
   pub count-fits : r .count ≤ length l
@@ -60,7 +60,7 @@ module _ (c : EngineCall) (b : Buffer) (words₀ buf₀ answers : List ℕ) {r :
         ap (λ (x : List ℕ). take (r .count) x) (h .log) ∙ subst (λ (k : ℕ). take k (sets l₀ 0 (map codeOf (run .calls))) ≡ map codeOf (run .calls)) n (front l₀ (map codeOf (run .calls)) (omega (arith, count-most))) in
       ap (λ (x : List ℕ). map callOf x) e ∙ h .readable
 
-  pub performed-text : callLines 1 (map callOf (take (r .count) l)) ++ (resultLine (r .ending) ++ afterText b words buf) ≡ performed c b words₀ buf₀ answers
+  pub performed-text : callLines 1 (map callOf (take (r .count) l)) ++ (resultLine (r .ending) ++ afterText (r .ending) b words buf) ≡ performed c b words₀ buf₀ answers
   unfolding performed run
   performed-text = rw (log-calls, h .ending, h .lent, h .buf)
 

@@ -12,24 +12,29 @@ ghost use Rattle.numbers.specs.Log.{callOf};
 ghost use Rattle.listing.specs.Listing.{callLines, resultLine};
 ghost use Rattle.listing.specs.Puts.{Puts};
 ghost use Rattle.script.specs.BigEndian.{byte as Number·byte, half as Number·half, word as Number·word, row};
-ghost use Rattle.script.specs.Request.{fixed as Request·fixed, wordsFollow, bytesFollow, connectRequest, memoryRequest, requestOf, wordsOf, bytesOf};
+ghost use Rattle.script.specs.Request.{fixed as Request·fixed, wordsFollow, bytesFollow, functionOf, connectRequest, memoryRequest, coreRequest, fpbRequest, nrfRequest, requestOf, wordsOf, bytesOf};
 ghost use Rattle.script.specs.Script.{callEnd, answerCount, goodAnswer, goodAnswers, answerAt, wellFormed};
-ghost use Rattle.script.specs.Output.{malformedText, afterText, performed, requestText, scriptText, outputOf};
+ghost use Rattle.script.specs.Output.{malformedText, frameText, afterText, performed, requestText, scriptText, outputOf};
 ghost use Rattle.script.specs.Lending.{zeros, Zeros, wordCount, byteCount};
 ghost use Rattle.script.specs.Sizes.{Sizes};
 use calls_connect::ConnectCall;
+use calls_core::{CoreCall, Function};
+use calls_fpb::FpbCall;
 use calls_memory::MemoryCall;
+use calls_nrf::NrfCall;
 use engine::EngineCall;
 use numbers::CallEnding;
 use transport::Remembered;
 
-// What a call is lent: zeros that are printed afterwards, or the rest of its record.
+// What a call is lent: zeros that are printed afterwards, or the rest of its record, words behind so many bytes. `Frame`: zeros
+// for a frame, which is printed if the call succeeds.
 pub enum Buffer {
     Nothing,
     Words(u16),
     Bytes(u16),
-    GivenWords,
+    GivenWords(u8),
     GivenBytes,
+    Frame,
 }
 
 pub enum Request {
@@ -75,14 +80,14 @@ fn fixed(size: usize, n: usize, c: EngineCall, b: Buffer) -> Request
     Request::Malformed
 }
 
-fn words_follow(n: usize, c: EngineCall) -> Request
-    ensures { λ r. ⌜ r ≡ wordsFollow n c ⌝ }
+fn words_follow(size: u8, n: usize, c: EngineCall) -> Request
+    ensures { λ r. ⌜ r ≡ wordsFollow size n c ⌝ }
 {
-    if n < 4 {
+    if n < (size as usize) {
         return Request::Malformed;
     }
     if n % 4 == 0 {
-        return Request::Asked(c, Buffer::GivenWords);
+        return Request::Asked(c, Buffer::GivenWords(size));
     }
     Request::Malformed
 }
@@ -129,9 +134,67 @@ fn memory_request(number: u32, a: &[u8]) -> Request
             }
             fixed(6, n, EngineCall::Memory(MemoryCall::ReadWords(word(a, 0))), Buffer::Words(words as u16))
         }
-        12 => words_follow(n, EngineCall::Memory(MemoryCall::WriteWords(word(a, 0)))),
+        12 => words_follow(4, n, EngineCall::Memory(MemoryCall::WriteWords(word(a, 0)))),
         13 => fixed(6, n, EngineCall::Memory(MemoryCall::ReadMem(word(a, 0))), Buffer::Bytes(half(a, 4) as u16)),
         14 => bytes_follow(n, EngineCall::Memory(MemoryCall::WriteMem(word(a, 0)))),
+        _ => Request::Malformed,
+    }
+}
+
+// The function of calls 23 and 25.
+fn function_at(a: &[u8]) -> Function
+    ensures { λ r. ⌜ r ≡ functionOf (now (a .entry)) ⌝ }
+{
+    Function { fn_addr: word(a, 0), a0: word(a, 4), a1: word(a, 8), a2: word(a, 12), a3: word(a, 16), sp: word(a, 20), trampoline: word(a, 24) }
+}
+
+// Calls 15 to 25.
+fn core_request(number: u32, a: &[u8]) -> Request
+    ensures { λ r. ⌜ r ≡ coreRequest number (now (a .entry)) ⌝ }
+{
+    let n = a.len();
+    match number {
+        15 => fixed(0, n, EngineCall::Core(CoreCall::DebugEnable), Buffer::Nothing),
+        16 => fixed(0, n, EngineCall::Core(CoreCall::Halt), Buffer::Nothing),
+        17 => fixed(0, n, EngineCall::Core(CoreCall::Resume), Buffer::Nothing),
+        18 => fixed(0, n, EngineCall::Core(CoreCall::Step), Buffer::Nothing),
+        19 => fixed(0, n, EngineCall::Core(CoreCall::IsHalted), Buffer::Nothing),
+        20 => fixed(1, n, EngineCall::Core(CoreCall::ReadCoreReg(byte(a, 0) as u8)), Buffer::Nothing),
+        21 => fixed(5, n, EngineCall::Core(CoreCall::WriteCoreReg(byte(a, 0) as u8, word(a, 1))), Buffer::Nothing),
+        22 => fixed(2, n, EngineCall::Core(CoreCall::RomFuncLookup(byte(a, 0) as u8, byte(a, 1) as u8)), Buffer::Nothing),
+        23 => fixed(28, n, EngineCall::Core(CoreCall::StartFunction(function_at(a))), Buffer::Frame),
+        24 => fixed(36, n, EngineCall::Core(CoreCall::FinishFunction(word(a, 32))), Buffer::GivenWords(0)),
+        25 => fixed(32, n, EngineCall::Core(CoreCall::CallFunction(function_at(a), word(a, 28))), Buffer::Nothing),
+        _ => Request::Malformed,
+    }
+}
+
+// Calls 26 to 28.
+fn fpb_request(number: u32, a: &[u8]) -> Request
+    ensures { λ r. ⌜ r ≡ fpbRequest number (now (a .entry)) ⌝ }
+{
+    let n = a.len();
+    match number {
+        26 => fixed(4, n, EngineCall::Fpb(FpbCall::HwBreakpointSet(word(a, 0))), Buffer::Nothing),
+        27 => fixed(4, n, EngineCall::Fpb(FpbCall::HwBreakpointClear(word(a, 0))), Buffer::Nothing),
+        28 => fixed(4, n, EngineCall::Fpb(FpbCall::HwBreakpointAt(word(a, 0))), Buffer::Nothing),
+        _ => Request::Malformed,
+    }
+}
+
+// Calls 29 to 35.
+fn nrf_request(number: u32, a: &[u8]) -> Request
+    ensures { λ r. ⌜ r ≡ nrfRequest number (now (a .entry)) ⌝ }
+{
+    let n = a.len();
+    match number {
+        29 => fixed(0, n, EngineCall::Nrf(NrfCall::Nrf52ApprotectStatus), Buffer::Nothing),
+        30 => fixed(4, n, EngineCall::Nrf(NrfCall::Nrf52EraseAll(word(a, 0))), Buffer::Nothing),
+        31 => fixed(8, n, EngineCall::Nrf(NrfCall::Nrf52ErasePage { addr: word(a, 0), polls: word(a, 4) }), Buffer::Nothing),
+        32 => words_follow(8, n, EngineCall::Nrf(NrfCall::Nrf52Program { addr: word(a, 0), polls: word(a, 4) })),
+        33 => fixed(0, n, EngineCall::Nrf(NrfCall::Nrf54ApprotectStatus), Buffer::Nothing),
+        34 => fixed(4, n, EngineCall::Nrf(NrfCall::Nrf54EraseAll(word(a, 0))), Buffer::Nothing),
+        35 => words_follow(8, n, EngineCall::Nrf(NrfCall::Nrf54Program { addr: word(a, 0), polls: word(a, 4) })),
         _ => Request::Malformed,
     }
 }
@@ -142,7 +205,16 @@ fn request_of(number: u32, a: &[u8]) -> Request
     if number <= 5 {
         return connect_request(number, a);
     }
-    memory_request(number, a)
+    if number <= 14 {
+        return memory_request(number, a);
+    }
+    if number <= 25 {
+        return core_request(number, a);
+    }
+    if number <= 28 {
+        return fpb_request(number, a);
+    }
+    nrf_request(number, a)
 }
 
 fn good_answer(input: &[u8], i: usize) -> bool
@@ -225,12 +297,12 @@ fn load_answers(input: &[u8], i: usize, answers: &mut [u64])
     }
 }
 
-// The words behind an address.
-fn load_words(a: &[u8], words: &mut [u32])
-    requires { ⌜ length (now words) < 2 ^ 32 ⌝ }
-    ensures { λ _. ⌜ now (words .exit) ≡ row (Number·word (now (a .entry))) 4 (length (now (words .entry))) 4 ⌝ }
+// The words behind so many bytes.
+fn load_words(a: &[u8], size: usize, words: &mut [u32])
+    requires { ⌜ (size < 256) × (length (now words) < 2 ^ 32) ⌝ }
+    ensures { λ _. ⌜ now (words .exit) ≡ row (Number·word (now (a .entry))) 4 (length (now (words .entry))) size ⌝ }
 {
-    let mut at = 4;
+    let mut at = size;
     let mut j = 0;
     while j < words.len() {
         words[j] = word(a, at);
@@ -279,35 +351,48 @@ fn fill(b: Buffer, a: &[u8], words: &mut [u32], buf: &mut [u8])
         Buffer::Nothing => {}
         Buffer::Words(_) => {}
         Buffer::Bytes(_) => {}
-        Buffer::GivenWords => load_words(a, words),
+        Buffer::GivenWords(size) => load_words(a, size as usize, words),
         Buffer::GivenBytes => load_bytes(a, buf),
+        Buffer::Frame => {}
     }
 }
 
+// The frame of a call that succeeded.
+fn put_frame(out: &mut [u8], at: usize, e: CallEnding, words: &[u32]) -> usize
+    requires { ⌜ at + 8 * length (now words) ≤ 2 ^ 60 ⌝ }
+    ensures { λ r. ⌜ Puts (now (out .entry)) at (frameText e (now (words .entry))) (now (out .exit)) r × (r ≤ at + 3 + 8 * length (now (words .entry))) ⌝ }
+{
+    if e.number == 0 {
+        return listing::put_words_line(out, at, words);
+    }
+    at
+}
+
 // What follows the result.
-fn put_after(out: &mut [u8], at: usize, b: Buffer, words: &[u32], buf: &[u8]) -> usize
+fn put_after(out: &mut [u8], at: usize, e: CallEnding, b: Buffer, words: &[u32], buf: &[u8]) -> usize
     requires { ⌜ at + 8 * length (now words) + 2 * length (now buf) ≤ 2 ^ 60 ⌝ }
-    ensures { λ r. ⌜ Puts (now (out .entry)) at (afterText b (now (words .entry)) (now (buf .entry))) (now (out .exit)) r
+    ensures { λ r. ⌜ Puts (now (out .entry)) at (afterText e b (now (words .entry)) (now (buf .entry))) (now (out .exit)) r
       × (r ≤ at + 3 + max (8 * length (now (words .entry))) (2 * length (now (buf .entry)))) ⌝ }
 {
     match b {
         Buffer::Nothing => at,
         Buffer::Words(_) => listing::put_words_line(out, at, words),
         Buffer::Bytes(_) => listing::put_bytes_line(out, at, buf),
-        Buffer::GivenWords => at,
+        Buffer::GivenWords(_) => at,
         Buffer::GivenBytes => at,
+        Buffer::Frame => put_frame(out, at, e, words),
     }
 }
 
 // The calls of a log, the ending and what follows it.
 fn put_run(out: &mut [u8], log: &[u64], e: CallEnding, b: Buffer, words: &[u32], buf: &[u8]) -> usize
     requires { ⌜ (length (now log) ≤ 9361) × (length (now words) < 65536) × (length (now buf) < 65536) ⌝ }
-    ensures { λ r. ⌜ Puts (now (out .entry)) 0 (callLines 1 (map callOf (now (log .entry))) ++ (resultLine e ++ afterText b (now (words .entry)) (now (buf .entry))))
+    ensures { λ r. ⌜ Puts (now (out .entry)) 0 (callLines 1 (map callOf (now (log .entry))) ++ (resultLine e ++ afterText e b (now (words .entry)) (now (buf .entry))))
       (now (out .exit)) r × (r ≤ 1048576) ⌝ }
 {
     let p = listing::put_calls(out, 0, log);
     let p2 = listing::put_result(out, p, e);
-    put_after(out, p2, b, words, buf)
+    put_after(out, p2, e, b, words, buf)
 }
 
 // A call on a new engine, and its listing. No script has more than 9,361 answers.
@@ -329,14 +414,14 @@ fn put_malformed(out: &mut [u8]) -> usize
     listing::put_result(out, 0, CallEnding { number: 13, value: 0 })
 }
 
-// How many bytes stand behind an address.
-fn behind(n: usize) -> usize
-    ensures { λ r. ⌜ r ≡ n - 4 ⌝ }
+// How many of n bytes stand behind the first `size`.
+fn behind(n: usize, size: usize) -> usize
+    ensures { λ r. ⌜ r ≡ n - size ⌝ }
 {
-    if n < 4 {
+    if n < size {
         return 0;
     }
-    n - 4
+    n - size
 }
 
 // How many words a call is lent that has n bytes of arguments.
@@ -348,8 +433,9 @@ fn word_count(b: Buffer, n: usize) -> usize
         Buffer::Nothing => 0,
         Buffer::Words(k) => k as usize,
         Buffer::Bytes(_) => 0,
-        Buffer::GivenWords => behind(n) / 4,
+        Buffer::GivenWords(size) => behind(n, size as usize) / 4,
         Buffer::GivenBytes => 0,
+        Buffer::Frame => 8,
     }
 }
 
@@ -362,8 +448,9 @@ fn byte_count(b: Buffer, n: usize) -> usize
         Buffer::Nothing => 0,
         Buffer::Words(_) => 0,
         Buffer::Bytes(k) => k as usize,
-        Buffer::GivenWords => 0,
-        Buffer::GivenBytes => behind(n),
+        Buffer::GivenWords(_) => 0,
+        Buffer::GivenBytes => behind(n, 4),
+        Buffer::Frame => 0,
     }
 }
 

@@ -1,6 +1,7 @@
--- The call runs over the words that are its own; the report over those is the one over what the caller lends.
-use mathlib.Core.Path.{refl, sym, _∙_}
-use Rattle.engine.specs.Run.{reports-ran}
+-- The call runs over the caller's words or over a row with the frame that it finds; the report over those is the one over what
+-- the caller lends, the frame that the call leaves among it.
+use mathlib.Core.Path.{sym, _∙_}
+use Rattle.engine.specs.Run.{own-ran, row-ran}
 use borrow.Author.Needs.{needs}
 use Rattle.engine.proofs.run.Statement.{statement}
 use Rattle.engine.proofs.run.Tie as tie
@@ -9,10 +10,7 @@ pub run-spec : {M : Type 1} → statement M
 run-spec =
     tie.close (tie.spec
     (λ c κs. search needs) (λ c κs. search needs) (λ c κs. search needs) (λ c. search needs) (λ c. search needs) (λ c. search needs)
-    (λ c. let b6 = c .before .before .before .before .before .before in let b10 = b6 .before .before .before .before in let b11 = b10 .before in let b12 =
-      b11 .before in simp (sym (b11 .owns .ensures) ∙ b10 .if1 .taken) (rw (b12 .call-start .ensures) (reports-ran _ _ _ _ _ _ _ _ _ refl (b6 .run-on
-      .ensures))))
-    (λ c. search needs) (λ c κs. search needs) (λ c. search needs) (λ c. search needs)
-    (λ c. let b5 = c .before .before .before .before .before in let b9 = b5 .before .before .before .before in let b10 = b9 .before in let b11 = b10
-      .before in simp (sym (b10 .owns .ensures) ∙ b9 .if1 .left) (rw (b11 .call-start .ensures) (reports-ran _ _ _ _ _ _ _ _ _ refl (b5 .run-on2
-      .ensures)))))
+    (λ c. let own = c .before .before .before .before .before .before .before .before .before .before .before .owns .ensures in let test = c .before .before .before .before .before .before .before .before .before .before .if1 .taken in simp (sym own ∙ test) (rw (c .before .before .before .before .before .before .before .before .before .before .before .before .call-start .ensures) (own-ran _ _ _ _ _ _ _ _ (sym test ∙ own) (c .before .before .before .before .before .before .run-on .ensures))))
+    (λ c κs. search needs) (λ c κs. search needs) (λ c. search needs) (λ c κs. search needs) (λ c. search needs) (λ c κs. search needs)
+    (λ c. search needs) (λ c. search needs) (λ c. search needs)
+    (λ c. let own = c .before .before .before .before .before .before .before .before .before .before .before .before .before .before .before .before .before .before .owns .ensures in let test = c .before .before .before .before .before .before .before .before .before .before .before .before .before .before .before .before .before .if1 .left in let frame = c .before .before .before .before .before .before .before .before .before .before .before .before .before .before .before .before .frame-for .ensures in simp (sym own ∙ test) (rw (c .before .before .before .before .before .before .before .before .before .before .before .before .before .before .before .before .before .before .before .call-start .ensures) (rw (sym frame) (rw (sym (c .before .before .before .before .before .before .before .before .before .before .before .before .before .before .row-for .ensures)) (row-ran _ _ _ _ _ _ _ _ _ _ (sym test ∙ own) frame (c .before .before .before .before .before .before .before .before .before .before .run-on2 .ensures) (c .before .before .keep-frame .ensures)))))))

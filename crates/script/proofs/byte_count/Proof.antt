@@ -8,5 +8,5 @@ pub byte-count-spec : {M : Type 1} → statement M
 byte-count-spec =
     tie.close (tie.spec
     (λ c. search needs) (λ c. search needs) (λ c. search needs) (λ c. search needs) (λ c. search needs) (λ c. search needs) (λ c κs. search needs)
-    (λ c. search needs) (λ c. search needs) (λ c. search needs) (λ c. search needs)
-    (λ c. (rw (c .before .enum-told4 .given .1) (c .behind .ensures), omega (arith, c .behind .ensures))))
+    (λ c. search needs) (λ c. search needs) (λ c. search needs) (λ c. search needs) (λ c. search needs)
+    (λ c. (rw (c .before .enum-told4 .given .1) (c .behind .ensures), omega (arith, c .behind .ensures))) (λ c. search needs))

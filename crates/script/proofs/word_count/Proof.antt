@@ -9,6 +9,7 @@ use Rattle.script.proofs.word_count.Tie as tie
 pub word-count-spec : {M : Type 1} → statement M
 word-count-spec =
     tie.close (tie.spec
-    (λ c. search needs) (λ c. search needs) (λ c. search needs) (λ c. search needs) (λ c. search needs) (λ c κs. search needs) (λ c. search needs)
-    (λ c. search needs) (λ c. search needs) (λ c. search needs)
-    (λ c. (rw (c .before .enum-told3 .given .1) (ap (λ (x : ℕ). x / 4) (c .behind .ensures)), omega (arith, c .behind .ensures))) (λ c. search needs))
+    (λ c. search needs) (λ c. search needs) (λ c. search needs) (λ c. search needs) (λ c. search needs) (λ c. search needs) (λ c κs. search needs)
+    (λ c. search needs) (λ c. search needs) (λ c. search needs) (λ c. search needs) (λ c. search needs)
+    (λ c. (rw (c .before .before .b2 .given .1) (ap (λ (x : ℕ). x / 4) (c .behind .ensures)), omega (arith, c .behind .ensures))) (λ c. search needs)
+    (λ c. search needs))
