@@ -14,7 +14,7 @@ sed -n 's/^\([a-z_0-9]*\):.*/\1/p' crates.txt | while read -r crate; do
     for file in "$dir"/specs/*.antt; do
         [ -f "$file" ] || continue
         case $file in
-            *Laws.antt | */Expected.antt | */Cases.antt | crates/cases/*) other="$other $file" ;;
+            *Laws.antt | */Expected.antt | crates/cases/*) other="$other $file" ;;
             *) if head -n 3 "$file" | grep -qi 'serves* the proofs'; then other="$other $file"; else believed="$believed $file"; fi ;;
         esac
     done

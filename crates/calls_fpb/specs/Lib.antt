@@ -1,4 +1,3 @@
 pub mod Fpb
 pub mod Breakpoint
 pub mod After
-pub mod Cases

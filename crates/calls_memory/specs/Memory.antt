@@ -3,6 +3,7 @@ use Prim.Native.Nat.{ℕ, zero, suc, _+_, _-_, _*_, _/_, _%_, min}
 use mathlib.Core.Bool.{Bool, true, false}
 use lib.Dec.{eqb, leb}
 use Rattle.transport.specs.declared.ArmError.the-variants as E
+use Rattle.memap.specs.Words.{tarRun}
 use Rattle.memap.specs.declared.Op.the-variants as O
 use Rattle.jobs.specs.Job.{Job, _>>=_, _>>_, return, fail, cond, just, keeping, apRead, apWrite, readWord, writeWord}
 use Rattle.jobs.specs.declared.Change.the-variants as C
@@ -16,10 +17,6 @@ readWords addr n = just (O.ReadWords addr n (n - 1))
 -- (000: write_words)
 abbrev pub writeWords : ℕ → ℕ → Job
 writeWords addr n = cond (eqb n 0) (return 0) (just (O.WriteWords addr n (n - 1)))
-
--- as many words as fit below the next multiple of 1024, where TAR's increment ends
-abbrev pub tarRun : ℕ → ℕ → ℕ
-tarRun addr words = min ((1024 - addr % 1024) / 4) words
 
 -- the words of one run of read_mem and write_mem
 abbrev pub runWords : ℕ → ℕ → ℕ

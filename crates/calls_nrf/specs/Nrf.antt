@@ -1,11 +1,12 @@
 -- Nordic chips: protection, mass erase and flash (000: nrf52_approtect_status to nrf54_program).
 -- A transfer that fails ends the call at its place, and APSEL stays as it was set.
-use Prim.Native.Nat.{ℕ, zero, suc, _+_, _-_, _*_, _/_, _%_, min}
+use Prim.Native.Nat.{ℕ, zero, suc, _+_, _-_, _*_, _%_}
 use mathlib.Core.Bool.{Bool, true, false}
 use lib.Dec.{eqb, leb}
 use Rattle.transport.specs.declared.ArmError.the-variants as E
 use Rattle.transport.specs.declared.Outcome.{Outcome}
 use Rattle.transport.specs.declared.Outcome.the-variants.{Value, Failed}
+use Rattle.memap.specs.Words.{tarRun}
 use Rattle.memap.specs.declared.Op.the-variants as O
 use Rattle.jobs.specs.Job.{Job, ends, _>>=_, _>>_, return, fail, cond, just, keeping, apRead, apWrite, readWord, writeWord}
 use Rattle.jobs.specs.declared.Change.the-variants as C
@@ -87,10 +88,6 @@ abbrev pub programmable : ℕ → ℕ → Job → Job
 programmable addr words j =
     cond (eqb words 0) (return 0)
     (cond (eqb (addr % 4) 0) (cond (leb 0x100000000 (addr + 4 * words)) (fail E.Range) j) (fail E.Align))
-
--- as many words as fit below the next multiple of 1024, where TAR's increment ends
-abbrev pub tarRun : ℕ → ℕ → ℕ
-tarRun addr words = min ((1024 - addr % 1024) / 4) words
 
 -- n words of the caller's, from place `at` on (000: write_words)
 abbrev pub writeWords : ℕ → ℕ → ℕ → Job

@@ -3,19 +3,13 @@
 use Prim.Native.Nat.{ℕ, zero, suc, _-_, _*_, _≤_}
 use mathlib.Core.Path.{_≡_, refl, ap, _∙_}
 use native.Mathlib.Omega.{arith}
-use Rattle.transport.specs.declared.Outcome.the-variants.{Value, Failed}
-use Rattle.jobs.specs.Job.{Job, ends, op, keep, _>>=_, _>>_}
-use Rattle.calls_nrf.specs.Nrf.{runs, tarRun, writeWords}
+use Rattle.memap.specs.Words.{tarRun}
+use Rattle.jobs.specs.Job.{Job, _>>_}
+use Rattle.jobs.specs.JobLaws.{bind-assoc}
+use Rattle.calls_nrf.specs.Nrf.{runs, writeWords}
 use Rattle.calls_nrf.specs.After.{programming, settling, finishing}
 use Rattle.calls_nrf.specs.declared.Chip.{Chip}
 use Rattle.calls_nrf.specs.declared.Program.{Program}
-
--- lines of a `do` block may be grouped either way
-bind-assoc : (j : Job) (f g : ℕ → Job) → ((j >>= f) >>= g) ≡ (j >>= (λ (v : ℕ). f v >>= g))
-bind-assoc (ends (Value v)) f g = refl
-bind-assoc (ends (Failed e)) f g = refl
-bind-assoc (op w good bad) f g = λ i. op w (λ v. bind-assoc (good v) f g i) (λ e. bind-assoc (bad e) f g i)
-bind-assoc (keep c j) f g = ap (keep c) (bind-assoc j f g)
 
 -- the words that are passed are to go no more
 runs-passed : (settle : Job) (stop len left passed : ℕ) → passed ≤ left → runs settle stop len left passed ≡ runs settle stop len (left - passed) 0

@@ -5,9 +5,10 @@
 // Calls 29 to 35: protection, mass erase and flash of Nordic chips. Each function says what a call asks for next; none of them touches the line.
 ghost use mathlib.Core.Path.{_≡_};
 ghost use Prim.Native.Nat.{_-_, _*_, _+_};
+ghost use Rattle.memap.specs.Words.{tarRun};
 ghost use Rattle.jobs.specs.Asks.{asks, opThen};
 ghost use Rattle.jobs.specs.Job.{ends};
-ghost use Rattle.calls_nrf.specs.Nrf.{nrfJob, nrf52ApprotectStatus, nrf54ApprotectStatus, readStatus, softReset, pollErased, eraseAll, nrf52ErasePage, programmable, tarRun};
+ghost use Rattle.calls_nrf.specs.Nrf.{nrfJob, nrf52ApprotectStatus, nrf54ApprotectStatus, readStatus, softReset, pollErased, eraseAll, nrf52ErasePage, programmable};
 ghost use Rattle.calls_nrf.specs.After.{nrfAfter, goesOn, onPort, leaves, afterErased, releasing, released, config, ready, closing, writes, finishing, programming, flashing, waiting, afterReady, enabling};
 ghost use Rattle.calls_nrf.specs.declared.NrfAt.the-variants.{Status};
 mod nrf52;

@@ -23,6 +23,8 @@ use Rattle.jobs.specs.Job.{exec}
 use Rattle.calls_connect.specs.Connect.{ones, parity}
 use Rattle.calls_memory.specs.Memory.{runWords, memFrom, memoryJob}
 use Rattle.calls_memory.specs.declared.MemoryCall.the-variants as M
+use Rattle.calls_fpb.specs.Breakpoint.{fpbCompValue}
+use Rattle.calls_fpb.specs.declared.CompValue.the-variants as P
 use Rattle.engine.specs.Calls.{callTree}
 use Rattle.engine.specs.declared.EngineCall.the-variants as N
 
@@ -93,6 +95,14 @@ oneByte x a b c d e f =
 pub one-byte : (x a b c d e f : ℕ) → (length (oneByte x a b c d e f .calls) ≡ 6) × (oneByte x a b c d e f .ending ≡ ended (Value 0))
 unfolding play exec memoryJob memFrom perform transfer tries push patchBytes
 one-byte x a b c d e f = (refl, refl)
+
+-- what a comparator holds for a breakpoint: 0x102, revision 0
+pub breakpoint-v0 : fpbCompValue 0x102 0 ≡ P.Some 0x80000101
+breakpoint-v0 = refl
+
+-- 0x20000101, revision 1
+pub breakpoint-v1 : fpbCompValue 0x20000101 1 ≡ P.Some 0x20000101
+breakpoint-v1 = refl
 
 -- TARGETSEL's parity
 pub parity-even : parity 0x01002927 ≡ 0

@@ -1,6 +1,6 @@
 -- Words of the target's memory (000: read_word to write_words). The words of a run stand in the memory's row: the last one
 -- at place `last`, the others before it.
-use Prim.Native.Nat.{ℕ, zero, suc, _-_}
+use Prim.Native.Nat.{ℕ, zero, suc, _-_, _/_, _%_, min}
 use lib.Dec.{eqb}
 use lib.ListN.{set, getD}
 use Rattle.transport.specs.Wire.{Memory}
@@ -33,6 +33,10 @@ placed m i v = record { remembered = m .remembered; words = set (m .words) i v; 
 -- the word v goes to place i of the row; a place outside is dropped
 abbrev pub place : ℕ → ℕ → Action
 place i v k m = k (placed m i v) (Value 0)
+
+-- as many words as fit below the next multiple of 1024, where TAR's increment ends
+abbrev pub tarRun : ℕ → ℕ → ℕ
+tarRun addr words = min ((1024 - addr % 1024) / 4) words
 
 -- each of `more` reads of DRW answers the word before it, and RDBUFF the last
 unfoldable pub pull : ℕ → ℕ → Action

@@ -1,3 +1,4 @@
+-- An operation is begun as `op_start` ensures, and `go` has the rest. An end is the tree's own end, with nothing in flight.
 use Rattle.jobs.specs.Asks.{exec-op}
 use Rattle.jobs.specs.Job.{exec}
 use mathlib.Core.Path.{refl}

@@ -1,3 +1,4 @@
+-- Each arm is the contract of its group: the definition splits on the same cases, in the same order.
 use borrow.Author.Needs.{needs}
 use Rattle.engine.proofs.call_start.Statement.{statement}
 use Rattle.engine.proofs.call_start.Tie as tie

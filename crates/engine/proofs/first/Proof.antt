@@ -1,3 +1,4 @@
+-- What the call asks for first is its job (`call_start`), and `asked` takes it up.
 use borrow.Author.Needs.{needs}
 use Rattle.engine.proofs.first.Statement.{statement}
 use Rattle.engine.proofs.first.Tie as tie

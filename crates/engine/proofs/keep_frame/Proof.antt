@@ -1,3 +1,4 @@
+-- Where a frame is left, `copy_frame` has put it there. In the other cases nothing is touched, as `leave` says.
 use borrow.Author.Needs.{needs}
 use Rattle.engine.proofs.keep_frame.Statement.{statement}
 use Rattle.engine.proofs.keep_frame.Tie as tie

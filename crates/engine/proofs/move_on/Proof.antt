@@ -1,3 +1,5 @@
+-- The step of the operation in flight is `op_step`'s. If it goes on, `go` has the rest; if it ended, `asked` takes up what
+-- follows.
 use Rattle.jobs.specs.Asks.{then-is}
 use borrow.Author.Needs.{needs}
 use Rattle.engine.proofs.move_on.Statement.{statement}

@@ -1,3 +1,4 @@
+-- The numbers and the bytes are those of `numbers`, and the state is handed on.
 use mathlib.Core.Path.{refl}
 use borrow.Author.Needs.{needs}
 use Rattle.engine.proofs.numbered.Statement.{statement}

@@ -1,3 +1,5 @@
+-- A row is zeros, and where a frame is found `copy_frame` has put it into the first eight places. `rowWith` has the same
+-- cases.
 use borrow.Author.Needs.{needs}
 use Rattle.engine.proofs.row_for.Statement.{statement}
 use Rattle.engine.proofs.row_for.Tie as tie

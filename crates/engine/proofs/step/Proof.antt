@@ -1,3 +1,5 @@
+-- The call runs over the caller's words or over the row, as its state says. `move_on` has the tree, `numbered` its numbers,
+-- and what is not run over is not lent on.
 use Rattle.engine.specs.declared.State.{State}
 use Rattle.engine.specs.StepLaws.{numbered-steps}
 use mathlib.Core.Path.{refl, ap, _∙_}

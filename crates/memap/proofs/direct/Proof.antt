@@ -1,3 +1,4 @@
+-- The transfer begins as the contract of `begin` says, whatever follows it.
 use borrow.Author.Needs.{needs}
 use Rattle.memap.proofs.direct.Statement.{statement}
 use Rattle.memap.proofs.direct.Tie as tie

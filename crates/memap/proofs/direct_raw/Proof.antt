@@ -1,3 +1,4 @@
+-- The call begins as the contract of `begin_raw` says, whatever follows it.
 use borrow.Author.Needs.{needs}
 use Rattle.memap.proofs.direct_raw.Statement.{statement}
 use Rattle.memap.proofs.direct_raw.Tie as tie

@@ -1,3 +1,4 @@
+-- A read of RDBUFF is one transfer with no SELECT before it (`direct`).
 use borrow.Author.Needs.{needs}
 use Rattle.memap.proofs.rdbuff_on.Statement.{statement}
 use Rattle.memap.proofs.rdbuff_on.Tie as tie

@@ -1,3 +1,4 @@
+-- TAR's write is an access to the port (`access_start`), whatever follows it.
 use borrow.Author.Needs.{needs}
 use Rattle.memap.proofs.tar_on.Statement.{statement}
 use Rattle.memap.proofs.tar_on.Tie as tie

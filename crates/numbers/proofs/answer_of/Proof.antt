@@ -1,3 +1,4 @@
+-- The code is tested in the order of the definition: 0, 1, 2, and any other.
 use borrow.Author.Tests.{eq-eqb, ne-eqb}
 use borrow.Author.Needs.{needs}
 use Rattle.numbers.proofs.answer_of.Statement.{statement}

@@ -1,3 +1,4 @@
+-- As many bytes as the bits fill: 0 to 3, or the four that a word has. Each count computes the definition.
 use native.Mathlib.Omega.{arith}
 use mathlib.Core.Path.{_≡_}
 use Prim.Native.Nat.{_+_, _/_, _≤_}

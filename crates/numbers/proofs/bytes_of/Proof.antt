@@ -1,3 +1,4 @@
+-- Each kind of call has its row: the fixed sequence, the bytes of the bits, or none.
 use borrow.Author.Needs.{needs}
 use Rattle.numbers.proofs.bytes_of.Statement.{statement}
 use Rattle.numbers.proofs.bytes_of.Tie as tie

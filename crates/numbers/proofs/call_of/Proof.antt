@@ -1,3 +1,4 @@
+-- The kind is tested in the order of the definition; what is behind it is taken apart the same way.
 use borrow.Author.Tests.{eq-eqb, ne-eqb}
 use borrow.Author.Needs.{needs}
 use Rattle.numbers.proofs.call_of.Statement.{statement}

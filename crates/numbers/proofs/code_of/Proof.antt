@@ -1,3 +1,4 @@
+-- Each kind has its number in the upper bits, and what is packed below it reads back (`LogLaws`).
 use native.Mathlib.Omega.{arith}
 use mathlib.Core.Path.{refl}
 use Rattle.numbers.specs.LogLaws.{reads-transfer, reads-sequence, reads-pins, reads-bits}

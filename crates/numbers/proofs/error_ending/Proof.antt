@@ -1,3 +1,4 @@
+-- Each error is a row of 01's table.
 use borrow.Author.Needs.{needs}
 use Rattle.numbers.proofs.error_ending.Statement.{statement}
 use Rattle.numbers.proofs.error_ending.Tie as tie

@@ -1,3 +1,4 @@
+-- The call's number goes to its place, or is dropped where the log ends (`set-out`). It reads back as `code_of` says.
 use mathlib.Core.Path.{sym}
 use lib.Seq.{set-out}
 use borrow.Author.Needs.{needs}

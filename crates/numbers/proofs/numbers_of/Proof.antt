@@ -1,3 +1,4 @@
+-- Each kind of call has its row, and the count of its bytes is the length of what is handed over.
 use lib.ListN.{length-take}
 use borrow.Author.Needs.{needs}
 use Rattle.numbers.proofs.numbers_of.Statement.{statement}

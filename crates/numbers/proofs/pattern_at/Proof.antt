@@ -1,3 +1,4 @@
+-- The number is tested in the order of the definition.
 use borrow.Author.Tests.{eq-eqb, ne-eqb}
 use Rattle.numbers.proofs.pattern_at.Statement.{statement}
 use Rattle.numbers.proofs.pattern_at.Tie as tie

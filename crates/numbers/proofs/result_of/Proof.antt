@@ -1,3 +1,4 @@
+-- A value is result 0; an error has its row (`error_ending`).
 use borrow.Author.Needs.{needs}
 use Rattle.numbers.proofs.result_of.Statement.{statement}
 use Rattle.numbers.proofs.result_of.Tie as tie

@@ -1,3 +1,4 @@
+-- Each fixed sequence is a row of the table.
 use borrow.Author.Needs.{needs}
 use Rattle.numbers.proofs.sequence_numbers.Statement.{statement}
 use Rattle.numbers.proofs.sequence_numbers.Tie as tie

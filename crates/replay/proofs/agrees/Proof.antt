@@ -1,3 +1,4 @@
+-- The part that is compared is within `out`, as the test before it says.
 use lib.ListN.{length-take}
 use native.Mathlib.Omega.{arith}
 use borrow.Author.Needs.{needs}

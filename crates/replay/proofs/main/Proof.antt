@@ -1,3 +1,4 @@
+-- The count of vectors goes down, and starts at 100,000.
 use Prim.Native.Nat.{_≤_}
 use borrow.Author.Needs.{needs}
 use Rattle.replay.proofs.main.Statement.{statement}

@@ -1,3 +1,4 @@
+-- Both parts are within their buffers, as the tests before them say.
 use lib.ListN.{length-take}
 use native.Mathlib.Omega.{arith}
 use borrow.Author.Needs.{needs}

@@ -1,3 +1,4 @@
+-- The seven words of the record are the fields of the definition, in its order.
 use borrow.Author.Needs.{needs}
 use Rattle.script.proofs.function_at.Statement.{statement}
 use Rattle.script.proofs.function_at.Tie as tie

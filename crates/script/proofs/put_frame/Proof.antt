@@ -1,3 +1,4 @@
+-- If the call succeeded the line of words is put. Else nothing is put, and the place stays.
 use mathlib.Core.Path.{refl}
 use native.Mathlib.Omega.{arith}
 use borrow.Author.Tests.{eq-eqb, ne-eqb}

@@ -1,3 +1,4 @@
+-- A transfer that begins has all its tries left: that is the definition.
 use mathlib.Core.Path.{refl}
 use Rattle.transport.specs.Transfer.{tries, transfer}
 use Rattle.transport.proofs.begin.Statement.{statement}

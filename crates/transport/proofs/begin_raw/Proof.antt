@@ -1,3 +1,4 @@
+-- A call that is no transfer is made once: that is the definition.
 use mathlib.Core.Path.{refl}
 use Rattle.transport.specs.Transfer.{raw}
 use Rattle.transport.proofs.begin_raw.Statement.{statement}

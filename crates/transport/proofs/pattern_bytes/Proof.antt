@@ -1,3 +1,4 @@
+-- Each fixed sequence is a row of the table.
 use borrow.Author.Needs.{needs}
 use Rattle.transport.proofs.pattern_bytes.Statement.{statement}
 use Rattle.transport.proofs.pattern_bytes.Tie as tie

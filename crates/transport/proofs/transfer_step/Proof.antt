@@ -1,3 +1,5 @@
+-- A transfer in flight is tested by its mode and then by the answer, as the definition does. A WAIT with tries left is the
+-- same transfer with one less.
 use borrow.Author.Tests.{ne-eqb, eq-eqb}
 use Rattle.transport.specs.Transfer.{tries}
 use Rattle.transport.specs.Flight.{tries-more}
