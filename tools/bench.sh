@@ -17,8 +17,8 @@ instructions() {
         sed -n 's/.*Collected : \([0-9]*\).*/\1/p'
 }
 
-printf '%-12s %8s %8s %6s %8s %8s %6s\n' call rust port ratio rust-ns port-ns ratio
-for call in read_mem write_mem read_word connect_swd; do
+printf '%-18s %8s %8s %6s %8s %8s %6s\n' call rust port ratio rust-ns port-ns ratio
+for call in read_mem write_mem read_word connect_swd hw_breakpoint_set call_function; do
     case $call in read_mem | write_mem) few=1 many=3 times=300 ;; *) few=100 many=1100 times=200000 ;; esac
     set -- "$call"
     for side in rust port; do
@@ -28,5 +28,5 @@ for call in read_mem write_mem read_word connect_swd; do
         set -- "$@" "$a" "$b" "${said% *}" "${said#* }"
     done
     echo "$* $((many - few))" | awk '{ n = $4 * $10; r = ($3 - $2) / n; p = ($7 - $6) / n
-        printf "%-12s %8.1f %8.1f %6.2f %8.2f %8.2f %6.2f\n", $1, r, p, p / r, $5, $9, $9 / $5 }'
+        printf "%-18s %8.1f %8.1f %6.2f %8.2f %8.2f %6.2f\n", $1, r, p, p / r, $5, $9, $9 / $5 }'
 done

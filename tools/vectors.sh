@@ -2,9 +2,9 @@
 # Makes crates/replay/stdin anew from the unchanged Rust.
 # Usage: tools/vectors.sh [SRC]
 set -eu
-calls=1-14
-count=1200
-bytes=900000
+calls=1-35
+count=2100
+bytes=8000
 seed=1
 cd "$(dirname "$0")/.."
 tools/oracle/build.sh "$@"

@@ -11,12 +11,20 @@ extern "C" {
     fn bench_write_mem(addr: u32, budget: u32, a: *const u64, an: usize, b: *mut u8, bn: usize, l: *mut u64, ln: usize) -> u32;
     fn bench_read_word(addr: u32, budget: u32, a: *const u64, an: usize, b: *mut u8, bn: usize, l: *mut u64, ln: usize) -> u32;
     fn bench_connect_swd(budget: u32, a: *const u64, an: usize, b: *mut u8, bn: usize, l: *mut u64, ln: usize) -> u32;
+    fn bench_hw_breakpoint_set(addr: u32, budget: u32, a: *const u64, an: usize, b: *mut u8, bn: usize, l: *mut u64, ln: usize) -> u32;
+    fn bench_call_function(
+        at: u32, room: u32, polls: u32, budget: u32, a: *const u64, an: usize, b: *mut u8, bn: usize, l: *mut u64, ln: usize,
+    ) -> u32;
 }
 
 const ADDRESS: u32 = 0x2000_0000;
-const CALLS: [&str; 4] = ["read_mem", "write_mem", "read_word", "connect_swd"];
+const CALLS: [&str; 6] = ["read_mem", "write_mem", "read_word", "connect_swd", "hw_breakpoint_set", "call_function"];
 const LENGTH: usize = 65_536;
 const BUDGET: usize = 20_000;
+/// The answer that shows the core running, in call_function's first look: before
+/// it SELECT and CSW, 9 transport calls for each of 8 registers read and of 8
+/// written, 3 for the trampoline, 6 for DHCSR, and 2 of the look.
+const STARTED: usize = 2 + 8 * 9 + 3 + 8 * 9 + 6 + 2;
 
 /// Takes each answer from a list and writes each call's number to a log, as the port's run does.
 struct Instantly<'a> {
@@ -87,7 +95,9 @@ fn on_rust(call: usize, answers: &[u64], buf: &mut [u8], log: &mut [u64]) -> usi
         0 => engine.read_mem(ADDRESS, buf).is_ok(),
         1 => engine.write_mem(ADDRESS, buf).is_ok(),
         2 => engine.read_word(ADDRESS).is_ok(),
-        _ => engine.connect_swd().is_ok(),
+        3 => engine.connect_swd().is_ok(),
+        4 => engine.hw_breakpoint_set(ADDRESS).is_ok_and(|set| set),
+        _ => engine.call_function(ADDRESS, &[0; 4], ADDRESS, ADDRESS, 9).is_ok(),
     };
     assert!(ok);
     engine.transport().made
@@ -102,10 +112,28 @@ fn on_port(call: usize, answers: &[u64], buf: &mut [u8], log: &mut [u64]) -> usi
             0 => bench_read_mem(ADDRESS, budget, a, an, b, bn, l, ln),
             1 => bench_write_mem(ADDRESS, budget, a, an, b, bn, l, ln),
             2 => bench_read_word(ADDRESS, budget, a, an, b, bn, l, ln),
-            _ => bench_connect_swd(budget, a, an, b, bn, l, ln),
+            3 => bench_connect_swd(budget, a, an, b, bn, l, ln),
+            4 => bench_hw_breakpoint_set(ADDRESS, budget, a, an, b, bn, l, ln),
+            _ => bench_call_function(ADDRESS, ADDRESS, 9, budget, a, an, b, bn, l, ln),
         }
     };
     made as usize
+}
+
+/// Answers that let a call go its usual way, all of them Ok.
+fn answers(call: usize) -> Vec<u64> {
+    let mut list: Vec<u64> = match call {
+        // FP_CTRL of revision 1 with eight comparators; each of them is free.
+        4 => vec![0x1000_0080; BUDGET],
+        // DHCSR with S_REGRDY and S_HALT.
+        5 => vec![0x0003_0000; BUDGET],
+        // Both power-up acks are set.
+        _ => (0..BUDGET as u64).map(|i| 0xA000_0001 + i).collect(),
+    };
+    if call == 5 {
+        list[STARTED] = 0x0001_0000;
+    }
+    list
 }
 
 fn main() {
@@ -113,8 +141,7 @@ fn main() {
     let call = CALLS.iter().position(|c| *c == args[1]).expect("a call's name");
     let side = if args[2] == "rust" { on_rust } else { on_port };
     let repeats: usize = args[3].parse().expect("a number");
-    // Every answer is Ok, with both power-up acks set.
-    let answers: Vec<u64> = (0..BUDGET as u64).map(|i| 0xA000_0001 + i).collect();
+    let answers = answers(call);
     let mut bytes = vec![0u8; LENGTH];
     let mut log = vec![0u64; BUDGET];
     let mut other = (bytes.clone(), log.clone());

@@ -12,7 +12,7 @@ const MAX_WORDS: usize = 8_192;
 const MALFORMED: &str = "13 00000000\n";
 
 /// An answer of the transport: code 0 Ok, 1 SwdError, 2 NotSupported, 3 other.
-#[derive(Clone, Copy)]
+#[derive(Clone, Copy, PartialEq)]
 pub struct Answer {
     pub code: u8,
     pub value: u32,
@@ -81,16 +81,16 @@ fn hex(bytes: &[u8]) -> String {
 }
 
 /// The big-endian word at a place.
-fn word(bytes: &[u8], at: usize) -> u32 {
+pub fn word(bytes: &[u8], at: usize) -> u32 {
     u32::from_be_bytes(bytes[at..at + 4].try_into().unwrap())
 }
 
-fn words(bytes: &[u8]) -> Vec<u32> {
+pub fn words(bytes: &[u8]) -> Vec<u32> {
     bytes.chunks_exact(4).map(|w| word(w, 0)).collect()
 }
 
 /// A read's length: 2 bytes after the address.
-fn length(args: &[u8]) -> usize {
+pub fn length(args: &[u8]) -> usize {
     usize::from(args[4]) << 8 | usize::from(args[5])
 }
 
@@ -211,30 +211,45 @@ fn ending(result: Result<u32, ArmError>) -> (u32, u32) {
     }
 }
 
+/// The unchanged Rust over a line. A call finds the engine as the last one
+/// left it.
+pub struct Engine<'a, 'b>(ArmDebug<Mock<'a, 'b>>);
+
+impl<'a, 'b> Engine<'a, 'b> {
+    pub fn new(line: &'a mut Line<'b>) -> Self {
+        Engine(ArmDebug::new(Mock { line, log: String::new(), count: 0 }, DapConfig))
+    }
+
+    /// The printed text of a call.
+    pub fn call(&mut self, call: u8, args: &[u8]) -> String {
+        let mut out = Buffers::default();
+        match call {
+            11 => out.words = vec![0; length(args)],
+            13 => out.bytes = vec![0; length(args)],
+            _ => {}
+        }
+        self.0.transport().count = 0;
+        let (number, value) = match refusal(call, args) {
+            Some(number) => (number, 0),
+            None => match catch_unwind(AssertUnwindSafe(|| invoke(&mut self.0, call, args, &mut out))) {
+                Ok(result) => ending(result),
+                Err(payload) if payload.is::<Spent>() => (11, 0),
+                Err(payload) => resume_unwind(payload),
+            },
+        };
+        let mut text = take(&mut self.0.transport().log);
+        let _ = writeln!(text, "{number} {value:08X}");
+        if matches!(call, 11 | 13) || (call == 23 && number == 0) {
+            let words: String = out.words.iter().map(|w| format!("{w:08X}")).collect();
+            let _ = writeln!(text, "{}", format!("D {words}{}", hex(&out.bytes)).trim_end());
+        }
+        text
+    }
+}
+
 /// The printed text of a call on a new engine over a line.
 pub fn run(call: u8, args: &[u8], line: &mut Line) -> String {
-    let mut out = Buffers::default();
-    match call {
-        11 => out.words = vec![0; length(args)],
-        13 => out.bytes = vec![0; length(args)],
-        _ => {}
-    }
-    let mut engine = ArmDebug::new(Mock { line, log: String::new(), count: 0 }, DapConfig);
-    let (number, value) = match refusal(call, args) {
-        Some(number) => (number, 0),
-        None => match catch_unwind(AssertUnwindSafe(|| invoke(&mut engine, call, args, &mut out))) {
-            Ok(result) => ending(result),
-            Err(payload) if payload.is::<Spent>() => (11, 0),
-            Err(payload) => resume_unwind(payload),
-        },
-    };
-    let mut text = take(&mut engine.transport().log);
-    let _ = writeln!(text, "{number} {value:08X}");
-    if matches!(call, 11 | 13) || (call == 23 && number == 0) {
-        let words: String = out.words.iter().map(|w| format!("{w:08X}")).collect();
-        let _ = writeln!(text, "{}", format!("D {words}{}", hex(&out.bytes)).trim_end());
-    }
-    text
+    Engine::new(line).call(call, args)
 }
 
 /// A well-formed script.

@@ -1,8 +1,12 @@
 //! Makes scripts for the comparison; equal options give equal scripts.
-//! Usage: gen --calls 1-14 --count N --seed S --out FILE [--bytes LIMIT]
-//! Two thirds come from lists (runs to the edges, with every budget and fault,
-//! and malformed scripts), the rest is random. With a limit the lists are not
-//! mixed, and what is long is left out.
+//! Usage: gen --calls 1-35 --count N --seed S --out FILE [--bytes LIMIT]
+//! Two thirds come from lists (malformed scripts, runs to the edges, the same
+//! with every budget and fault), one of each in turn; the rest is random. With
+//! a limit, what is long is left out.
+//! Usage: gen --lists N --seed S --out FILE --texts FILE
+//! Makes lists of calls on one engine, and what the Rust does.
+
+mod lists;
 
 use driver::Answer;
 use std::collections::HashSet;
@@ -241,13 +245,18 @@ fn edges(call: u8) -> Vec<(u32, usize, u32)> {
     }
 }
 
-/// The listing of document 01, and connects to targets that do not answer or
-/// take long to power up.
+/// The listing of document 01; call 24 where the first SELECT is lost, so that it
+/// has to be written again; and connects to targets that do not answer or take
+/// long to power up.
 fn known(calls: &Calls, rng: &mut Rng) -> Vec<Script> {
     let mut out = Vec::new();
     if calls.contains(&9) {
         let case = Case::new(9, (0x2000_0000, 0, 0), rng);
         out.push(case.script(&[OK, OK, OK, OK, answer(0, 0x1234_5678)]));
+    }
+    if calls.contains(&24) {
+        let case = Case::new(24, (0, 0, 1), rng);
+        out.push(case.script(&[&[answer(1, 0)], &[OK; 9][..]].concat()));
     }
     for call in [1, 2, 3, 5].into_iter().filter(|c| calls.contains(c)) {
         let case = Case::new(call, (0x0100_2927, 0, 0), rng);
@@ -259,10 +268,24 @@ fn known(calls: &Calls, rng: &mut Rng) -> Vec<Script> {
     out
 }
 
-/// Base runs, and the same runs with each budget and each fault.
+/// One of each list in turn.
+fn in_turn(lists: Vec<Vec<Script>>) -> Vec<Script> {
+    let mut lists: Vec<_> = lists.into_iter().map(Vec::into_iter).collect();
+    let mut out = Vec::new();
+    loop {
+        let before = out.len();
+        out.extend(lists.iter_mut().filter_map(Iterator::next));
+        if out.len() == before {
+            return out;
+        }
+    }
+}
+
+/// Base runs, and the same runs with each budget and each fault, by call in turn.
 fn runs(calls: &Calls, rng: &mut Rng) -> (Vec<Script>, Vec<Script>) {
-    let (mut bases, mut others) = (known(calls, rng), Vec::new());
+    let (mut bases, mut of_calls) = (known(calls, rng), Vec::new());
     for call in calls.clone() {
+        let mut others = Vec::new();
         for (k, edge) in edges(call).into_iter().enumerate() {
             let case = Case::new(call, edge, rng);
             let seed = rng.next();
@@ -283,8 +306,10 @@ fn runs(calls: &Calls, rng: &mut Rng) -> (Vec<Script>, Vec<Script>) {
                 }
             }
         }
+        rng.shuffle(&mut others);
+        of_calls.push(others);
     }
-    (bases, others)
+    (bases, in_turn(of_calls))
 }
 
 /// An answer of any kind, mostly Ok.
@@ -363,36 +388,26 @@ fn malformed(calls: &Calls, rng: &mut Rng) -> Vec<Script> {
     out
 }
 
-/// Keeps each script that, with its text, takes at most a tenth of the bytes left.
-fn keep_small(list: &mut Vec<Script>, mut left: usize) {
-    list.retain(|script| {
-        let size = 8 + script.len() + driver::expected(script).len();
-        let keep = size <= left / 10;
-        left -= if keep { size } else { 0 };
-        keep
-    });
+/// Whether a script, with its text, takes at most so many bytes.
+fn small(script: &Script, limit: Option<u64>) -> bool {
+    limit.is_none_or(|most| (8 + script.len() + driver::expected(script).len()) as u64 <= most)
 }
 
 /// The scripts to write: from the lists, then random ones, none twice.
 fn choose(calls: &Calls, count: usize, limit: Option<u64>, rng: &mut Rng) -> Vec<Script> {
-    let mut list = malformed(calls, rng);
-    let (bases, mut others) = runs(calls, rng);
-    let lengths = (list.len(), bases.len(), others.len());
+    let wrong = malformed(calls, rng);
+    let (bases, others) = runs(calls, rng);
+    let lengths = (wrong.len(), bases.len(), others.len());
     println!("lists (format, base runs, budgets and faults): {lengths:?}");
-    rng.shuffle(&mut others);
-    list.extend(bases.into_iter().chain(others));
-    match limit {
-        Some(bytes) => keep_small(&mut list, bytes as usize),
-        None => rng.shuffle(&mut list),
-    }
     let mut seen = HashSet::new();
-    list.retain(|script| seen.insert(script.clone()));
-    list.truncate(count - count / 3);
+    let listed = in_turn(vec![wrong, bases, others]).into_iter();
+    let listed = listed.filter(|script| small(script, limit) && seen.insert(script.clone()));
+    let mut list: Vec<_> = listed.take(count - count / 3).collect();
     while list.len() < count {
         let script = if rng.below(8) == 0 { damaged(calls, rng) } else { random_run(calls, rng) };
         // A damaged call number can be that of a call which is not chosen.
         let chosen = driver::parse(&script).is_none_or(|s| calls.contains(&s.call));
-        if chosen && seen.insert(script.clone()) {
+        if chosen && small(&script, limit) && seen.insert(script.clone()) {
             list.push(script);
         }
     }
@@ -403,15 +418,22 @@ fn main() {
     let args: Vec<String> = std::env::args().collect();
     let option = |name: &str| args.iter().position(|a| a == name).map(|i| args[i + 1].clone());
     let number = |name: &str| option(name).map(|n| n.parse::<u64>().expect("not a number"));
+    let mut rng = Rng(number("--seed").unwrap_or(1));
+    let file = |name: &str| option(name).expect("a file");
+    if let Some(count) = number("--lists") {
+        let (input, texts) = lists::make(count as usize, &mut rng);
+        std::fs::write(file("--out"), input).expect("cannot write");
+        std::fs::write(file("--texts"), texts).expect("cannot write");
+        return;
+    }
     let range = option("--calls").expect("--calls FIRST-LAST");
     let (first, last) = range.split_once('-').expect("--calls FIRST-LAST");
     let calls = first.parse().unwrap()..=last.parse().unwrap();
     let count = number("--count").expect("--count N") as usize;
-    let mut rng = Rng(number("--seed").unwrap_or(1));
     let mut batch = Vec::new();
     for script in choose(&calls, count, number("--bytes"), &mut rng) {
         batch.extend((script.len() as u32).to_be_bytes());
         batch.extend(script);
     }
-    std::fs::write(option("--out").expect("--out FILE"), batch).expect("cannot write");
+    std::fs::write(file("--out"), batch).expect("cannot write");
 }

@@ -1,18 +1,21 @@
 // The engine's calls for a benchmark in another language: each runs one call on a new engine over answers that are given
 // as numbers, and says how many transport calls it made.
 ghost use mathlib.Core.Path.{_≡_};
-ghost use lib.ListN.{length};
 ghost use Rattle.calls_connect.specs.declared.ConnectCall.the-variants.{ConnectSwd};
+ghost use Rattle.calls_core.specs.declared.CoreCall.the-variants.{CallFunction};
+ghost use Rattle.calls_fpb.specs.declared.FpbCall.the-variants.{HwBreakpointSet};
 ghost use Rattle.calls_memory.specs.declared.MemoryCall.the-variants.{ReadMem, WriteMem, ReadWord};
-ghost use Rattle.engine.specs.declared.EngineCall.the-variants.{Connect, Memory};
-ghost use Rattle.bench.specs.Played.{playedNew};
+ghost use Rattle.engine.specs.declared.EngineCall.the-variants.{Connect, Memory, Core, Fpb};
+ghost use Rattle.bench.specs.Played.{Counted, called};
 use calls_connect::ConnectCall;
+use calls_core::{CoreCall, Function};
+use calls_fpb::FpbCall;
 use calls_memory::MemoryCall;
 use engine::EngineCall;
 use transport::Remembered;
 
 fn count(c: EngineCall, budget: u32, answers: &[u64], buf: &mut [u8], log: &mut [u64]) -> u32
-    ensures { λ r. ⌜ (r ≡ length (playedNew c budget (now (answers .entry)) (now (buf .entry)) .calls)) × (now (buf .exit) ≡ playedNew c budget (now (answers .entry)) (now (buf .entry)) .memory .buf) ⌝ }
+    ensures { λ r. ⌜ Counted c budget (now (answers .entry)) (now (buf .entry)) (now (log .entry)) r (now (buf .exit)) (now (log .exit)) ⌝ }
 {
     let mut words = [0u32; 1];
     let r = engine::run(Remembered { select: 0xFFFFFFFF, csw: false, apsel: 0 }, c, budget, answers, &mut words, buf, log);
@@ -21,28 +24,44 @@ fn count(c: EngineCall, budget: u32, answers: &[u64], buf: &mut [u8], log: &mut 
 
 #[no_mangle]
 pub extern "C" fn bench_read_mem(addr: u32, budget: u32, answers: &[u64], buf: &mut [u8], log: &mut [u64]) -> u32
-    ensures { λ r. ⌜ r ≡ length (playedNew (Memory (ReadMem addr)) budget (now (answers .entry)) (now (buf .entry)) .calls) ⌝ }
+    ensures { λ r. ⌜ Counted (Memory (ReadMem addr)) budget (now (answers .entry)) (now (buf .entry)) (now (log .entry)) r (now (buf .exit)) (now (log .exit)) ⌝ }
 {
     count(EngineCall::Memory(MemoryCall::ReadMem(addr)), budget, answers, buf, log)
 }
 
 #[no_mangle]
 pub extern "C" fn bench_write_mem(addr: u32, budget: u32, answers: &[u64], buf: &mut [u8], log: &mut [u64]) -> u32
-    ensures { λ r. ⌜ r ≡ length (playedNew (Memory (WriteMem addr)) budget (now (answers .entry)) (now (buf .entry)) .calls) ⌝ }
+    ensures { λ r. ⌜ Counted (Memory (WriteMem addr)) budget (now (answers .entry)) (now (buf .entry)) (now (log .entry)) r (now (buf .exit)) (now (log .exit)) ⌝ }
 {
     count(EngineCall::Memory(MemoryCall::WriteMem(addr)), budget, answers, buf, log)
 }
 
 #[no_mangle]
 pub extern "C" fn bench_read_word(addr: u32, budget: u32, answers: &[u64], buf: &mut [u8], log: &mut [u64]) -> u32
-    ensures { λ r. ⌜ r ≡ length (playedNew (Memory (ReadWord addr)) budget (now (answers .entry)) (now (buf .entry)) .calls) ⌝ }
+    ensures { λ r. ⌜ Counted (Memory (ReadWord addr)) budget (now (answers .entry)) (now (buf .entry)) (now (log .entry)) r (now (buf .exit)) (now (log .exit)) ⌝ }
 {
     count(EngineCall::Memory(MemoryCall::ReadWord(addr)), budget, answers, buf, log)
 }
 
 #[no_mangle]
 pub extern "C" fn bench_connect_swd(budget: u32, answers: &[u64], buf: &mut [u8], log: &mut [u64]) -> u32
-    ensures { λ r. ⌜ r ≡ length (playedNew (Connect ConnectSwd) budget (now (answers .entry)) (now (buf .entry)) .calls) ⌝ }
+    ensures { λ r. ⌜ Counted (Connect ConnectSwd) budget (now (answers .entry)) (now (buf .entry)) (now (log .entry)) r (now (buf .exit)) (now (log .exit)) ⌝ }
 {
     count(EngineCall::Connect(ConnectCall::ConnectSwd), budget, answers, buf, log)
+}
+
+#[no_mangle]
+pub extern "C" fn bench_hw_breakpoint_set(addr: u32, budget: u32, answers: &[u64], buf: &mut [u8], log: &mut [u64]) -> u32
+    ensures { λ r. ⌜ Counted (Fpb (HwBreakpointSet addr)) budget (now (answers .entry)) (now (buf .entry)) (now (log .entry)) r (now (buf .exit)) (now (log .exit)) ⌝ }
+{
+    count(EngineCall::Fpb(FpbCall::HwBreakpointSet(addr)), budget, answers, buf, log)
+}
+
+// The function at `fn_addr` with no arguments; `room` is its stack and the place that it returns to.
+#[no_mangle]
+pub extern "C" fn bench_call_function(fn_addr: u32, room: u32, polls: u32, budget: u32, answers: &[u64], buf: &mut [u8], log: &mut [u64]) -> u32
+    ensures { λ r. ⌜ Counted (Core (CallFunction (called «fn_addr» room) polls)) budget (now (answers .entry)) (now (buf .entry)) (now (log .entry)) r (now (buf .exit)) (now (log .exit)) ⌝ }
+{
+    let f = Function { fn_addr: fn_addr, a0: 0, a1: 0, a2: 0, a3: 0, sp: room, trampoline: room };
+    count(EngineCall::Core(CoreCall::CallFunction(f, polls)), budget, answers, buf, log)
 }

@@ -1,7 +1,10 @@
-// What no script reaches: calls on an engine that earlier calls left, what stands after Spent, and the steps themselves.
-// Each line: a name, then for each call the transport calls made, the result number and value, and SELECT, CSW, APSEL after.
+// What no script shows: what is remembered after Spent, the end of a ROM table, the steps themselves; and 01's cases that are
+// not marked P. Each line: a name, then for each call the transport calls made, the result number and value, and SELECT, CSW,
+// APSEL after.
 use calls_connect::ConnectCall;
+use calls_core::CoreCall;
 use calls_memory::MemoryCall;
+use calls_nrf::NrfCall;
 use engine::{EngineCall, NextStep, Ran, StepAnswer};
 use transport::{Answer, Remembered};
 
@@ -60,41 +63,6 @@ fn call(r: Remembered, c: EngineCall, budget: u32, value: u64, lost: usize, byte
     run_over(r, c, budget, &answers, bytes)
 }
 
-// A call with no buffer, all answers Ok.
-fn plain(r: Remembered, c: EngineCall) -> Remembered {
-    let mut none = [0u8; 0];
-    call(r, c, 64, 0xA0000001, 64, &mut none)
-}
-
-fn caches() {
-    write(b"read_word twice:");
-    let r = plain(new_engine(), EngineCall::Memory(MemoryCall::ReadWord(0x20000000)));
-    plain(r, EngineCall::Memory(MemoryCall::ReadWord(0x20000004)));
-    write(b"\n");
-    write(b"another AP and back:");
-    let r = plain(r, EngineCall::Memory(MemoryCall::SetApsel(1)));
-    let r = plain(r, EngineCall::Memory(MemoryCall::ReadWord(0x20000000)));
-    let r = plain(r, EngineCall::Memory(MemoryCall::SetApsel(1)));
-    let r = plain(r, EngineCall::Memory(MemoryCall::WriteWord(0x20000000, 5)));
-    plain(r, EngineCall::Memory(MemoryCall::ApRegRead(0xFC)));
-    write(b"\n");
-}
-
-fn connects() {
-    let mut none = [0u8; 0];
-    write(b"a connect lost at once forgets nothing:");
-    let r = plain(new_engine(), EngineCall::Memory(MemoryCall::ReadWord(0x20000000)));
-    let r = call(r, EngineCall::Connect(ConnectCall::ConnectSwd), 64, 1, 0, &mut none);
-    plain(r, EngineCall::Memory(MemoryCall::ReadWord(0x20000000)));
-    write(b"\n");
-    write(b"connects and APSEL:");
-    let r = plain(new_engine(), EngineCall::Memory(MemoryCall::SetApsel(3)));
-    let r = plain(r, EngineCall::Connect(ConnectCall::Reselect(0x01002927)));
-    let r = plain(r, EngineCall::Connect(ConnectCall::ConnectMultidrop(0x11002927)));
-    plain(r, EngineCall::Connect(ConnectCall::ConnectSwd));
-    write(b"\n");
-}
-
 fn budgets() {
     let mut none = [0u8; 0];
     let mut some = [9u8; 8];
@@ -111,6 +79,58 @@ fn budgets() {
     write(b"the top word but one byte:");
     call(new_engine(), EngineCall::Memory(MemoryCall::ReadMem(0xFFFFFFF7)), 64, 0x44332211, 64, &mut some);
     io::print_decimal(1, wide(some[7]));
+    write(b"\n");
+}
+
+// 01's cases that are not marked P.
+fn refusals() {
+    let mut four = [9u8; 4];
+    let mut three = [9u8; 3];
+    let mut none = [0u8; 0];
+    write(b"4 bytes at 0xFFFFFFFC, read and written:");
+    call(new_engine(), EngineCall::Memory(MemoryCall::ReadMem(0xFFFFFFFC)), 64, 0x44332211, 64, &mut four);
+    call(new_engine(), EngineCall::Memory(MemoryCall::WriteMem(0xFFFFFFFC)), 64, 0x44332211, 64, &mut four);
+    io::print_decimal(1, wide(four[0]));
+    write(b"\n3 bytes there:");
+    call(new_engine(), EngineCall::Memory(MemoryCall::ReadMem(0xFFFFFFFC)), 64, 0x44332211, 64, &mut three);
+    io::print_hex(1, wide(three[0]), 2);
+    io::print_hex(1, wide(three[1]), 2);
+    io::print_hex(1, wide(three[2]), 2);
+    write(b"\nprogram at 0x3FD:");
+    call(new_engine(), EngineCall::Nrf(NrfCall::Nrf52Program { addr: 0x3FD, polls: 9 }), 64, 1, 64, &mut none);
+    call(new_engine(), EngineCall::Nrf(NrfCall::Nrf54Program { addr: 0x3FD, polls: 9 }), 64, 1, 64, &mut none);
+    write(b"\n");
+}
+
+fn look_up(budget: u32, answers: &[u64; 98309]) {
+    let mut words = [0u32; 1];
+    let mut bytes = [0u8; 0];
+    let mut log = [0u64; 1];
+    let x = engine::run(new_engine(), EngineCall::Core(CoreCall::RomFuncLookup(0x49, 0x46)), budget, answers, &mut words, &mut bytes, &mut log);
+    show(x);
+}
+
+// A table whose entries neither match nor end it, its last entry answered otherwise. Every read answers `entry`, the
+// pointer's too: its low half is the table's address.
+fn table(budget: u32, entry: u64, place: usize, last: u64) {
+    let mut answers = [entry; 98309];
+    if place < 98309 {
+        answers[place] = last;
+    }
+    look_up(budget, &answers);
+}
+
+// Call 22: 5 transport calls for the pointer, and for each of 16,384 entries 3, or 6 where the table is misaligned.
+fn table_ends() {
+    write(b"TableEnd, and one answer less:");
+    table(49157, 0x10004, 49156, 0x10004);
+    table(49156, 0x10004, 49156, 0x10004);
+    write(b"\nthe last entry matches, and the last one ends the table:");
+    table(98309, 0x10004, 49156, 0x12344649);
+    table(98309, 0x10004, 49156, 0x12340000);
+    write(b"\nmisaligned, and one answer less:");
+    table(98309, 0x10001, 98308, 0x10001);
+    table(98308, 0x10001, 98308, 0x10001);
     write(b"\n");
 }
 
@@ -193,9 +213,9 @@ fn bits() {
 }
 
 fn main() {
-    caches();
-    connects();
     budgets();
+    refusals();
+    table_ends();
     steps();
     bits();
 }

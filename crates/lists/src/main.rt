@@ -1,0 +1,287 @@
+// Lists of calls, each list on one engine, as the unchanged Rust made them. Standard input and what must be printed for it:
+// tools/README.md.
+ghost use Prim.Native.Nat.{_<_};
+use calls_connect::ConnectCall;
+use calls_core::{CoreCall, Function};
+use calls_fpb::FpbCall;
+use calls_memory::MemoryCall;
+use calls_nrf::NrfCall;
+use engine::EngineCall;
+use numbers::CallEnding;
+use transport::Remembered;
+
+// As many transport calls are printed; of a longer call only their number.
+const SHOWN: usize = 1000;
+
+fn wide(x: u8) -> u32
+    ensures { λ r. ⌜ r < 256 ⌝ }
+{
+    x as u32
+}
+
+fn next_byte() -> u8 {
+    let mut b = [0u8; 1];
+    io::read_full(0, &mut b);
+    b[0]
+}
+
+fn next_half() -> u32
+    ensures { λ r. ⌜ r < 65536 ⌝ }
+{
+    let a = wide(next_byte());
+    let b = wide(next_byte());
+    0x100 * a + b
+}
+
+fn next_word() -> u32 {
+    let a = next_half();
+    let b = next_half();
+    0x10000 * a + b
+}
+
+// Calls 1 to 8.
+fn port_call(number: u8, a: &[u32; 8]) -> EngineCall {
+    match number {
+        1 => EngineCall::Connect(ConnectCall::ConnectMultidrop(a[0])),
+        2 => EngineCall::Connect(ConnectCall::ProbeSwd),
+        3 => EngineCall::Connect(ConnectCall::ConnectSwd),
+        4 => EngineCall::Connect(ConnectCall::ResetPulse(a[0])),
+        5 => EngineCall::Connect(ConnectCall::Reselect(a[0])),
+        6 => EngineCall::Memory(MemoryCall::SetApsel((a[0] % 256) as u8)),
+        7 => EngineCall::Memory(MemoryCall::ApRegRead((a[0] % 256) as u8)),
+        _ => EngineCall::Memory(MemoryCall::ApRegWrite((a[0] % 256) as u8, a[1])),
+    }
+}
+
+// Calls 9 to 14.
+fn memory_call(number: u8, a: &[u32; 8]) -> EngineCall {
+    match number {
+        9 => EngineCall::Memory(MemoryCall::ReadWord(a[0])),
+        10 => EngineCall::Memory(MemoryCall::WriteWord(a[0], a[1])),
+        11 => EngineCall::Memory(MemoryCall::ReadWords(a[0])),
+        12 => EngineCall::Memory(MemoryCall::WriteWords(a[0])),
+        13 => EngineCall::Memory(MemoryCall::ReadMem(a[0])),
+        _ => EngineCall::Memory(MemoryCall::WriteMem(a[0])),
+    }
+}
+
+fn function(a: &[u32; 8]) -> Function {
+    Function { fn_addr: a[0], a0: a[1], a1: a[2], a2: a[3], a3: a[4], sp: a[5], trampoline: a[6] }
+}
+
+// Calls 15 to 25.
+fn core_call(number: u8, a: &[u32; 8]) -> EngineCall {
+    match number {
+        15 => EngineCall::Core(CoreCall::DebugEnable),
+        16 => EngineCall::Core(CoreCall::Halt),
+        17 => EngineCall::Core(CoreCall::Resume),
+        18 => EngineCall::Core(CoreCall::Step),
+        19 => EngineCall::Core(CoreCall::IsHalted),
+        20 => EngineCall::Core(CoreCall::ReadCoreReg((a[0] % 256) as u8)),
+        21 => EngineCall::Core(CoreCall::WriteCoreReg((a[0] % 256) as u8, a[1])),
+        22 => EngineCall::Core(CoreCall::RomFuncLookup((a[0] % 256) as u8, (a[1] % 256) as u8)),
+        23 => EngineCall::Core(CoreCall::StartFunction(function(a))),
+        24 => EngineCall::Core(CoreCall::FinishFunction(a[0])),
+        _ => EngineCall::Core(CoreCall::CallFunction(function(a), a[7])),
+    }
+}
+
+// Calls 26 to 35.
+fn chip_call(number: u8, a: &[u32; 8]) -> EngineCall {
+    match number {
+        26 => EngineCall::Fpb(FpbCall::HwBreakpointSet(a[0])),
+        27 => EngineCall::Fpb(FpbCall::HwBreakpointClear(a[0])),
+        28 => EngineCall::Fpb(FpbCall::HwBreakpointAt(a[0])),
+        29 => EngineCall::Nrf(NrfCall::Nrf52ApprotectStatus),
+        30 => EngineCall::Nrf(NrfCall::Nrf52EraseAll(a[0])),
+        31 => EngineCall::Nrf(NrfCall::Nrf52ErasePage { addr: a[0], polls: a[1] }),
+        32 => EngineCall::Nrf(NrfCall::Nrf52Program { addr: a[0], polls: a[1] }),
+        33 => EngineCall::Nrf(NrfCall::Nrf54ApprotectStatus),
+        34 => EngineCall::Nrf(NrfCall::Nrf54EraseAll(a[0])),
+        _ => EngineCall::Nrf(NrfCall::Nrf54Program { addr: a[0], polls: a[1] }),
+    }
+}
+
+fn call_of(number: u8, a: &[u32; 8]) -> EngineCall {
+    if number <= 8 {
+        return port_call(number, a);
+    }
+    if number <= 14 {
+        return memory_call(number, a);
+    }
+    if number <= 25 {
+        return core_call(number, a);
+    }
+    chip_call(number, a)
+}
+
+fn show(out: &[u8], n: usize) {
+    if n <= out.len() {
+        io::write_all(1, &out[..n]);
+    }
+}
+
+fn show_calls(log: &[u64], n: usize) {
+    if SHOWN < n {
+        io::print_decimal(1, n as u64);
+        io::write_all(1, b" transport calls\n");
+        return;
+    }
+    if n <= log.len() {
+        let mut out = [0u8; 65536];
+        let p = listing::put_calls(&mut out, 0, &log[..n]);
+        show(&out, p);
+    }
+}
+
+fn show_result(e: CallEnding) {
+    let mut out = [0u8; 16];
+    let p = listing::put_result(&mut out, 0, e);
+    show(&out, p);
+}
+
+fn show_words(words: &[u32]) {
+    let mut out = [0u8; 8192];
+    if words.len() <= SHOWN {
+        let p = listing::put_words_line(&mut out, 0, words);
+        show(&out, p);
+    }
+}
+
+fn show_bytes(bytes: &[u8]) {
+    let mut out = [0u8; 8192];
+    if bytes.len() <= SHOWN {
+        let p = listing::put_bytes_line(&mut out, 0, bytes);
+        show(&out, p);
+    }
+}
+
+// What follows the result: the words of 11, the bytes of 13, the frame of 23 if it succeeded.
+fn show_after(number: u8, e: CallEnding, words: &[u32], bytes: &[u8]) {
+    if number == 11 {
+        show_words(words);
+    }
+    if number == 13 {
+        show_bytes(bytes);
+    }
+    if number == 23 {
+        if e.number == 0 {
+            show_words(words);
+        }
+    }
+}
+
+// A call and its text; what is remembered after it.
+fn perform(r: Remembered, number: u8, c: EngineCall, answers: &[u64], words: &mut [u32], bytes: &mut [u8]) -> Remembered {
+    let mut log = [0u64; 16384];
+    io::write_all(1, b"call ");
+    io::print_decimal(1, number as u64);
+    io::write_all(1, b"\n");
+    let x = engine::run(r, c, 0xFFFFFFFF, answers, words, bytes, &mut log);
+    show_calls(&log, x.count as usize);
+    let e = x.ending;
+    show_result(e);
+    show_after(number, e, words, bytes);
+    x.remembered
+}
+
+fn arguments() -> [u32; 8] {
+    let a = next_word();
+    let b = next_word();
+    let c = next_word();
+    let d = next_word();
+    let e = next_word();
+    let f = next_word();
+    let g = next_word();
+    let h = next_word();
+    [a, b, c, d, e, f, g, h]
+}
+
+fn load_words(words: &mut [u32]) {
+    let mut i = 0;
+    while i < words.len() {
+        words[i] = next_word();
+        i += 1;
+    }
+}
+
+// The same answer n times, from the place `from` on; the place behind them.
+fn put_answers(answers: &mut [u64], from: usize, n: u32, v: u64) -> usize {
+    let mut at = from;
+    let mut left = n;
+    while 0 < left {
+        left -= 1;
+        if at < answers.len() {
+            answers[at] = v;
+            at += 1;
+        }
+    }
+    at
+}
+
+// So many runs of equal answers; how many answers they are.
+fn load_answers(answers: &mut [u64], runs: u32) -> usize {
+    let mut at = 0;
+    let mut left = runs;
+    while 0 < left {
+        left -= 1;
+        let n = next_half();
+        let code = wide(next_byte()) as u64;
+        let value = next_word() as u64;
+        at = put_answers(answers, at, n, code * 0x100000000 + value);
+    }
+    at
+}
+
+// A call whose arguments are read: n words and m bytes follow, and then its answers.
+fn take_call(r: Remembered, number: u8, c: EngineCall, runs: u32, answers: &mut [u64], words: &mut [u32], bytes: &mut [u8]) -> Remembered {
+    load_words(words);
+    io::read_full(0, bytes);
+    let n = load_answers(answers, runs);
+    if answers.len() < n {
+        return r;
+    }
+    perform(r, number, c, &answers[..n], words, bytes)
+}
+
+fn lend(r: Remembered, number: u8, c: EngineCall, n: usize, m: usize, runs: u32, words: &mut [u32], bytes: &mut [u8]) -> Remembered {
+    let mut answers = [0u64; 16384];
+    if words.len() < n {
+        return r;
+    }
+    if bytes.len() < m {
+        return r;
+    }
+    take_call(r, number, c, runs, &mut answers, &mut words[..n], &mut bytes[..m])
+}
+
+fn next_call(r: Remembered, number: u8) -> Remembered {
+    let n = next_half() as usize;
+    let m = next_half() as usize;
+    let runs = next_half();
+    let a = arguments();
+    let mut words = [0u32; 512];
+    let mut bytes = [0u8; 512];
+    lend(r, number, call_of(number, &a), n, m, runs, &mut words, &mut bytes)
+}
+
+fn new_engine() -> Remembered {
+    Remembered { select: 0xFFFFFFFF, csw: false, apsel: 0 }
+}
+
+fn main() {
+    let mut r = new_engine();
+    let mut left: u32 = 100000;
+    while 0 < left {
+        left -= 1;
+        let mut head = [0u8; 2];
+        if io::read_full(0, &mut head) < 2 {
+            return;
+        }
+        if head[0] == 1 {
+            io::write_all(1, b"list\n");
+            r = new_engine();
+        }
+        r = next_call(r, head[1]);
+    }
+}
