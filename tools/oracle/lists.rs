@@ -144,12 +144,12 @@ fn perform(list: Vec<Planned>, input: &mut Vec<u8>, text: &mut String) {
     for (i, planned) in list.into_iter().enumerate() {
         let (call, args) = (planned.case.call, planned.case.args.clone());
         *now.borrow_mut() = Some(planned);
-        let said = engine.call(call, &args);
+        let said = engine.call(call, &args).to_lowercase();
         let planned = now.borrow_mut().take().unwrap();
         input.extend(planned.record(i == 0));
         text.push_str(&format!("call {call}\n"));
         let lines: Vec<_> = said.lines().collect();
-        let count = lines.len() - if lines[lines.len() - 1].starts_with('D') { 2 } else { 1 };
+        let count = lines.len() - if lines[lines.len() - 1].starts_with('d') { 2 } else { 1 };
         if count > SHOWN {
             text.push_str(&format!("{count} transport calls\n"));
         }

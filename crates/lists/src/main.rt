@@ -8,7 +8,7 @@ use calls_memory::MemoryCall;
 use calls_nrf::NrfCall;
 use engine::EngineCall;
 use numbers::CallEnding;
-use transport::Remembered;
+use transport::{Call, Remembered};
 
 // As many transport calls are printed; of a longer call only their number.
 const SHOWN: usize = 1000;
@@ -115,68 +115,125 @@ fn call_of(number: u8, a: &[u32; 8]) -> EngineCall {
     chip_call(number, a)
 }
 
-fn show(out: &[u8], n: usize) {
-    if n <= out.len() {
-        io::write_all(1, &out[..n]);
+fn write(text: &[u8]) {
+    io::write_all(1, text);
+}
+
+fn show_bytes(bytes: &[u8]) {
+    let mut i = 0;
+    while i < bytes.len() {
+        io::print_hex(1, wide(bytes[i]) as u64, 2);
+        i += 1;
+    }
+}
+
+fn show_words(words: &[u32]) {
+    let mut i = 0;
+    while i < words.len() {
+        let w = words[i];
+        io::print_hex(1, w as u64, 8);
+        i += 1;
+    }
+}
+
+// A call that hands bytes over.
+fn show_handed(letter: &[u8], c: Call) {
+    let n = numbers::numbers_of(c);
+    let bytes = numbers::bytes_of(c);
+    let len = n.len as usize;
+    write(letter);
+    io::print_decimal(1, n.bits as u64);
+    write(b" ");
+    if len <= 16 {
+        show_bytes(&bytes[..len]);
+    }
+}
+
+fn show_call(c: Call) {
+    match c {
+        Call::Transfer { request, word } => {
+            write(b" t ");
+            io::print_hex(1, request as u64, 1);
+            write(b" ");
+            io::print_hex(1, word as u64, 8);
+        }
+        Call::Connect => write(b" c"),
+        Call::Sequence(p) => show_handed(b" q ", Call::Sequence(p)),
+        Call::Pins { output, select, wait_us } => {
+            write(b" p ");
+            io::print_hex(1, output as u64, 2);
+            write(b" ");
+            io::print_hex(1, select as u64, 2);
+            write(b" ");
+            io::print_hex(1, wait_us as u64, 8);
+        }
+        Call::WriteBits { bits, word } => show_handed(b" b ", Call::WriteBits { bits: bits, word: word }),
+        Call::OutputEnable => write(b" o"),
+    }
+}
+
+fn show_log(log: &[u64]) {
+    let mut i = 0;
+    while i < log.len() {
+        let call = numbers::call_of(log[i]);
+        i += 1;
+        io::print_decimal(1, i as u64);
+        show_call(call);
+        write(b"\n");
     }
 }
 
 fn show_calls(log: &[u64], n: usize) {
     if SHOWN < n {
         io::print_decimal(1, n as u64);
-        io::write_all(1, b" transport calls\n");
+        write(b" transport calls\n");
         return;
     }
     if n <= log.len() {
-        let mut out = [0u8; 65536];
-        let p = listing::put_calls(&mut out, 0, &log[..n]);
-        show(&out, p);
+        show_log(&log[..n]);
     }
 }
 
 fn show_result(e: CallEnding) {
-    let mut out = [0u8; 16];
-    let p = listing::put_result(&mut out, 0, e);
-    show(&out, p);
+    io::print_decimal(1, e.number as u64);
+    write(b" ");
+    io::print_hex(1, e.value as u64, 8);
+    write(b"\n");
 }
 
-fn show_words(words: &[u32]) {
-    let mut out = [0u8; 8192];
-    if words.len() <= SHOWN {
-        let p = listing::put_words_line(&mut out, 0, words);
-        show(&out, p);
+// The line of words or of bytes, one of which is empty.
+fn show_data(words: &[u32], bytes: &[u8]) {
+    write(b"d");
+    if 0 < words.len() {
+        write(b" ");
+        show_words(words);
     }
-}
-
-fn show_bytes(bytes: &[u8]) {
-    let mut out = [0u8; 8192];
-    if bytes.len() <= SHOWN {
-        let p = listing::put_bytes_line(&mut out, 0, bytes);
-        show(&out, p);
+    if 0 < bytes.len() {
+        write(b" ");
+        show_bytes(bytes);
     }
+    write(b"\n");
 }
 
 // What follows the result: the words of 11, the bytes of 13, the frame of 23 if it succeeded.
 fn show_after(number: u8, e: CallEnding, words: &[u32], bytes: &[u8]) {
-    if number == 11 {
-        show_words(words);
-    }
-    if number == 13 {
-        show_bytes(bytes);
-    }
-    if number == 23 {
-        if e.number == 0 {
-            show_words(words);
+    match number {
+        11 | 13 => show_data(words, bytes),
+        23 => {
+            if e.number == 0 {
+                show_data(words, bytes);
+            }
         }
+        _ => {}
     }
 }
 
 // A call and its text; what is remembered after it.
 fn perform(r: Remembered, number: u8, c: EngineCall, answers: &[u64], words: &mut [u32], bytes: &mut [u8]) -> Remembered {
     let mut log = [0u64; 16384];
-    io::write_all(1, b"call ");
+    write(b"call ");
     io::print_decimal(1, number as u64);
-    io::write_all(1, b"\n");
+    write(b"\n");
     let x = engine::run(r, c, 0xFFFFFFFF, answers, words, bytes, &mut log);
     show_calls(&log, x.count as usize);
     let e = x.ending;
@@ -279,7 +336,7 @@ fn main() {
             return;
         }
         if head[0] == 1 {
-            io::write_all(1, b"list\n");
+            write(b"list\n");
             r = new_engine();
         }
         r = next_call(r, head[1]);
