@@ -7,8 +7,8 @@ use Rattle.transport.specs.Transfer.{tries, transfer, raw}
 use Rattle.jobs.specs.Job.{exec}
 use Rattle.memap.specs.Ops.{perform}
 use Rattle.calls_memory.specs.Memory.{memoryJob, memFrom}
-use Rattle.listing.specs.Text.{digits, together}
-use Rattle.listing.specs.Listing.{callLines}
+use Rattle.script.specs.Text.{digits, together}
+use Rattle.script.specs.Listing.{callLines}
 use Rattle.script.specs.BigEndian.{row}
 use Rattle.script.specs.Request.{requestOf, wordsOf, bytesOf}
 use Rattle.script.specs.Script.{goodAnswers, wellFormed}

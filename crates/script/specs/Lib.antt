@@ -1,3 +1,7 @@
+pub mod Text
+pub mod TextLaws
+pub mod Listing
+pub mod Puts
 pub mod BigEndian
 pub mod Request
 pub mod Script

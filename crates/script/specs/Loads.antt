@@ -7,7 +7,7 @@ use native.Mathlib.Omega.{arith}
 use native.Mathlib.Numerals.{add-one}
 use lib.ListN.{length, set, getD, take, drop, replicate, drop-of-length-le}
 use lib.Seq.{sets, sets-eq, drop-cons}
-use Rattle.listing.specs.Puts.{Puts, Left, left-all, left-puts, left-none}
+use Rattle.script.specs.Puts.{Puts, Left, left-all, left-puts, left-none}
 use Rattle.script.specs.BigEndian.{row}
 use Rattle.script.specs.Script.{goodAnswer, goodAnswers}
 

@@ -11,8 +11,8 @@ use Rattle.jobs.specs.Change.{fresh}
 use Rattle.engine.specs.declared.EngineCall.{EngineCall}
 use Rattle.engine.specs.Calls.{callTree, rowFor, wordsLeft}
 use Rattle.engine.specs.Run.{within}
-use Rattle.listing.specs.Text.{hexByte, hexWord}
-use Rattle.listing.specs.Listing.{callLines, resultLine, dataLine}
+use Rattle.script.specs.Text.{hexByte, hexWord}
+use Rattle.script.specs.Listing.{callLines, resultLine, dataLine}
 use Rattle.script.specs.BigEndian.{byte}
 use Rattle.script.specs.Request.{requestOf, wordsOf, bytesOf}
 use Rattle.script.specs.Script.{wellFormed, arguments, answers}

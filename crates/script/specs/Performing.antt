@@ -14,7 +14,7 @@ use Rattle.engine.specs.declared.EngineCall.{EngineCall}
 use Rattle.engine.specs.declared.Ran.{Ran}
 use Rattle.engine.specs.Calls.{callTree, rowFor}
 use Rattle.engine.specs.Run.{within, RanAs}
-use Rattle.listing.specs.Listing.{callLines, resultLine}
+use Rattle.script.specs.Listing.{callLines, resultLine}
 use Rattle.script.specs.declared.Buffer.{Buffer}
 use Rattle.script.specs.declared.Request.{Request}
 use Rattle.script.specs.declared.Request.the-variants.{Asked}

@@ -4,7 +4,7 @@ use mathlib.Core.Path.{_≡_, refl}
 use native.Mathlib.Omega.{arith}
 use borrow.Author.Needs.{needs}
 use lib.ListN.{length}
-use Rattle.listing.specs.Puts.{Left}
+use Rattle.script.specs.Puts.{Left}
 use Rattle.script.specs.BigEndian.{row}
 use Rattle.script.specs.Script.{answerAt}
 use Rattle.script.specs.Loads.{row-all, left-row, row-whole}

@@ -6,7 +6,7 @@ use mathlib.Core.Path.{subst}
 use native.Mathlib.Omega.{arith}
 use borrow.Author.Needs.{needs}
 use lib.ListN.{length-take}
-use Rattle.listing.specs.Puts.{Puts}
+use Rattle.script.specs.Puts.{Puts}
 use Rattle.script.specs.Performing.{count-most, count-fits, performed-text}
 use Rattle.script.proofs.perform.Statement.{statement}
 use Rattle.script.proofs.perform.Tie as tie

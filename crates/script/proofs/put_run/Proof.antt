@@ -1,6 +1,6 @@
 -- The texts of the parts, one behind the other.
 use borrow.Author.Needs.{needs}
-use Rattle.listing.specs.Puts.{puts-then}
+use Rattle.script.specs.Puts.{puts-then}
 use Rattle.script.proofs.put_run.Statement.{statement}
 use Rattle.script.proofs.put_run.Tie as tie
 

@@ -3,7 +3,7 @@ use Prim.Native.Nat.{ℕ}
 use mathlib.Core.List.{List}
 use mathlib.Core.Path.{subst}
 use borrow.Author.Needs.{needs}
-use Rattle.listing.specs.Puts.{Puts}
+use Rattle.script.specs.Puts.{Puts}
 use Rattle.script.specs.Performing.{request-text}
 use Rattle.script.proofs.reply.Statement.{statement}
 use Rattle.script.proofs.reply.Tie as tie

@@ -1,0 +1,18 @@
+-- The texts of the parts, one behind the other.
+use borrow.Author.Needs.{needs}
+use Rattle.script.specs.Puts.{puts-then}
+use Rattle.script.proofs.listing.put_transfer.Statement.{statement}
+use Rattle.script.proofs.listing.put_transfer.Tie as tie
+
+pub put-transfer-spec : {M : Type 1} → statement M
+put-transfer-spec =
+    tie.close (tie.spec
+    (λ c κs. search needs) (λ c κs. search needs) (λ c. search needs) (λ c κs. search needs) (λ c κs. search needs) (λ c κs. search needs)
+    (λ c. search needs)
+    (λ c. let c₁ = c .before .before in
+      let c₂ = c₁ .before .before .before .before in
+      let c₃ = c₂ .before .before .before .before in
+      let c₄ = c₃ .before .before .before .before in
+      let c₅ = c₄ .before .before .before .before in
+      ((puts-then (c₅ .put .ensures) (puts-then (c₄ .put2 .ensures) (puts-then (c₃ .put-digit .ensures)
+        (puts-then (c₂ .put3 .ensures) (c₁ .put-hex-word .ensures))))), search needs)))
