@@ -19,6 +19,10 @@ fn wide(x: u8) -> u32
     x as u32
 }
 
+fn wide_word(x: u32) -> u64 {
+    x as u64
+}
+
 fn next_byte() -> u8 {
     let mut b = [0u8; 1];
     io::read_full(0, &mut b);
@@ -130,10 +134,19 @@ fn show_bytes(bytes: &[u8]) {
 fn show_words(words: &[u32]) {
     let mut i = 0;
     while i < words.len() {
-        let w = words[i];
-        io::print_hex(1, w as u64, 8);
+        io::print_hex(1, wide_word(words[i]), 8);
         i += 1;
     }
+}
+
+fn show_first(bytes: &[u8], n: usize) {
+    if n <= bytes.len() {
+        show_bytes(&bytes[..n]);
+    }
+}
+
+fn show_array(bytes: &[u8; 16], n: usize) {
+    show_first(bytes, n);
 }
 
 // A call that hands bytes over.
@@ -144,9 +157,7 @@ fn show_handed(letter: &[u8], c: Call) {
     write(letter);
     io::print_decimal(1, n.bits as u64);
     write(b" ");
-    if len <= 16 {
-        show_bytes(&bytes[..len]);
-    }
+    show_array(&bytes, len);
 }
 
 fn show_call(c: Call) {

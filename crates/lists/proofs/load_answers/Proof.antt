@@ -1,0 +1,33 @@
+use Prim.Native.Nat.{_-_, _≤_}
+use mathlib.Core.Path.{_≡_}
+use native.Mathlib.Omega.{arith}
+use lib.ListN.{length, length-take, length-set}
+use borrow.Author.Needs.{needs}
+use Rattle.lists.proofs.load_answers.Statement.{statement}
+use Rattle.lists.proofs.load_answers.Tie as tie
+
+abbrev Inv-loop : tie.InvT-loop
+Inv-loop answers₀ runs at₀ left₀ answers at left = length answers ≡ length answers₀
+
+abbrev μ-loop : tie.MeasureT-loop
+μ-loop answers₀ runs at₀ left₀ answers at left = left
+
+pub load-answers-spec : {M : Type 1} → statement M
+load-answers-spec = tie.close (tie.spec
+    Inv-loop
+    μ-loop
+    (λ c. search needs)
+    (λ c. search needs)
+    (λ c κs. search needs)
+    (λ c κs. search needs)
+    (λ c κs. search needs)
+    (λ c. search needs)
+    (λ c κs. search needs)
+    (λ c. search needs)
+    (λ c. search needs)
+    (λ c. search needs)
+    (λ c κs. search needs)
+    (λ c. search needs)
+    (λ c. search needs)
+    (λ c. search needs)
+    (λ c. search needs))

@@ -1,0 +1,29 @@
+use Prim.Native.Nat.{_-_, _≤_}
+use mathlib.Core.Path.{_≡_}
+use native.Mathlib.Omega.{arith}
+use lib.ListN.{length, length-take, length-set}
+use borrow.Author.Needs.{needs}
+use Rattle.lists.proofs.put_answers.Statement.{statement}
+use Rattle.lists.proofs.put_answers.Tie as tie
+
+abbrev Inv-loop : tie.InvT-loop
+Inv-loop answers₀ from n v at₀ left₀ answers at left = length answers ≡ length answers₀
+
+abbrev μ-loop : tie.MeasureT-loop
+μ-loop answers₀ from n v at₀ left₀ answers at left = left
+
+pub put-answers-spec : {M : Type 1} → statement M
+put-answers-spec = tie.close (tie.spec
+    Inv-loop
+    μ-loop
+    (λ c. search needs)
+    (λ c. search needs)
+    (λ c. search needs)
+    (λ c. search needs)
+    (λ c. search needs)
+    (λ c. search needs)
+    (λ c. search needs)
+    (λ c. search needs)
+    (λ c. search needs)
+    (λ c. search needs)
+    (λ c. search needs))

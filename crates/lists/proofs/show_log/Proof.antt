@@ -1,0 +1,30 @@
+use Prim.Native.Nat.{_-_, _≤_}
+use mathlib.Core.Path.{_≡_}
+use native.Mathlib.Omega.{arith}
+use lib.ListN.{length, length-take, length-set}
+use borrow.Author.Needs.{needs}
+use Rattle.lists.proofs.show_log.Statement.{statement}
+use Rattle.lists.proofs.show_log.Tie as tie
+
+abbrev Inv-loop : tie.InvT-loop
+Inv-loop log i₀ t4 i = i ≤ length log
+
+abbrev μ-loop : tie.MeasureT-loop
+μ-loop log i₀ t4 i = length log - i
+
+pub show-log-spec : {M : Type 1} → statement M
+show-log-spec = tie.close (tie.spec
+    Inv-loop
+    μ-loop
+    (λ c. search needs)
+    (λ c. search needs)
+    (λ c. search needs)
+    (λ c κs. search needs)
+    (λ c. search needs)
+    (λ c κs. search needs)
+    (λ c κs. search needs)
+    (λ c. search needs)
+    (λ c κs. search needs)
+    (λ c. search needs)
+    (λ c. search needs)
+    (λ c. search needs))
