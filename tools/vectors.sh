@@ -4,7 +4,7 @@
 set -eu
 calls=1-35
 count=2100
-bytes=8000
+bytes=30000
 seed=1
 cd "$(dirname "$0")/.."
 tools/oracle/build.sh "$@"
