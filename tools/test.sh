@@ -14,7 +14,7 @@ if [ -z "$passed" ]; then
     echo "0 passed, 1 failed"
     exit 1
 fi
-if tools/compare.sh 10000 >"$log" 2>&1; then
+if tools/compare.sh 30000 >"$log" 2>&1; then
     cat "$log"
     if grep -q ' agree, 0 differ$' "$log"; then passed=$((passed + 1)); fi
 else

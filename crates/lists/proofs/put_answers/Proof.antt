@@ -1,7 +1,6 @@
-use Prim.Native.Nat.{_-_, _≤_}
+-- Each turn has one answer less to put; one that does not fit is dropped, so the list keeps its length.
 use mathlib.Core.Path.{_≡_}
-use native.Mathlib.Omega.{arith}
-use lib.ListN.{length, length-take, length-set}
+use lib.ListN.{length}
 use borrow.Author.Needs.{needs}
 use Rattle.lists.proofs.put_answers.Statement.{statement}
 use Rattle.lists.proofs.put_answers.Tie as tie
@@ -14,16 +13,5 @@ abbrev μ-loop : tie.MeasureT-loop
 
 pub put-answers-spec : {M : Type 1} → statement M
 put-answers-spec = tie.close (tie.spec
-    Inv-loop
-    μ-loop
-    (λ c. search needs)
-    (λ c. search needs)
-    (λ c. search needs)
-    (λ c. search needs)
-    (λ c. search needs)
-    (λ c. search needs)
-    (λ c. search needs)
-    (λ c. search needs)
-    (λ c. search needs)
-    (λ c. search needs)
-    (λ c. search needs))
+    Inv-loop μ-loop (λ c. search needs) (λ c. search needs) (λ c. search needs) (λ c. search needs) (λ c. search needs) (λ c. search needs)
+    (λ c. search needs) (λ c. search needs) (λ c. search needs) (λ c. search needs) (λ c. search needs))
