@@ -76,8 +76,7 @@ impl Planned {
     }
 }
 
-/// A call with its answers over a target, by one of three faults or within a
-/// budget at times.
+/// A call over a target: of eight, three have a fault and one has a budget.
 fn random(rng: &mut Rng) -> Planned {
     let case = Case::random(&(1..=35), rng);
     let target = Target::new(rng.next(), &case);

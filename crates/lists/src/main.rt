@@ -301,7 +301,7 @@ fn load_answers(answers: &mut [u64], runs: u32) -> usize {
     at
 }
 
-// A call whose arguments are read: n words and m bytes follow, and then its answers.
+// A call whose arguments are read: the words and bytes that it is lent follow, and then its answers.
 fn take_call(r: Remembered, number: u8, c: EngineCall, runs: u32, answers: &mut [u64], words: &mut [u32], bytes: &mut [u8]) -> Remembered {
     load_words(words);
     io::read_full(0, bytes);
@@ -312,6 +312,7 @@ fn take_call(r: Remembered, number: u8, c: EngineCall, runs: u32, answers: &mut 
     perform(r, number, c, &answers[..n], words, bytes)
 }
 
+// The same with so many of the words and bytes; a call that does not fit is passed over.
 fn lend(r: Remembered, number: u8, c: EngineCall, n: usize, m: usize, runs: u32, words: &mut [u32], bytes: &mut [u8]) -> Remembered {
     let mut answers = [0u64; 16384];
     if words.len() < n {
