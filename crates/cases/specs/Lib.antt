@@ -1,2 +1,4 @@
 pub mod Table
 pub mod Listing
+pub mod ConnectLaws
+pub mod TargetCases

@@ -47,7 +47,7 @@ rest limit xs i = map answerOf (drop i (take limit xs))
 abbrev pub stopped : Memory → Played
 stopped m = record { calls = []; memory = m; ending = spent }
 
-along-none : (l : List ℕ) (p : Played) → Along 0 l l p p
+pub along-none : (l : List ℕ) (p : Played) → Along 0 l l p p
 along-none l p = record { calls = omega arith; memory = refl; ending = refl; log = refl; readable = λ h. h }
 
 -- the start, with the limit that a budget comes to
@@ -55,7 +55,7 @@ pub along-start : (w : Wire) (limit budget : ℕ) (xs l : List ℕ) → take lim
 along-start w limit budget xs l e =
     subst (λ (ys : List ℕ). Along 0 l l (play w (map answerOf ys)) (play w (rest limit xs 0))) e (along-none l (play w (rest limit xs 0)))
 
-along-more : (i : ℕ) (l₀ l : List ℕ) (p q : Played) (c : Call) → callOf (codeOf c) ≡ c → Along i l₀ l p (made c q)
+pub along-more : (i : ℕ) (l₀ l : List ℕ) (p q : Played) (c : Call) → callOf (codeOf c) ≡ c → Along i l₀ l p (made c q)
   → Along (i + 1) l₀ (set l i (codeOf c)) p q
 along-more i l₀ l p q c e h =
     record { calls = omega arith; memory = h .memory; ending = h .ending;
@@ -71,14 +71,14 @@ rest-more limit xs i h g =
 rest-none : (limit : ℕ) (xs : List ℕ) (i : ℕ) → limit ≤ i → rest limit xs i ≡ []
 rest-none limit xs i h = ap (map answerOf) (drop-of-length-le (take limit xs) {i = i} (omega (arith, length-take limit xs)))
 
-play-flight : (d : Mode) (m : Memory) (t : Transfer) (k : Outcome → Wire) (a : Answer) (l : List Answer)
+pub play-flight : (d : Mode) (m : Memory) (t : Transfer) (k : Outcome → Wire) (a : Answer) (l : List Answer)
   → play (flight d m t k) (a ∷ l) ≡ made (dueOf d t) (play (follow (flight d m t k) a) l)
 unfolding play
 play-flight M.Trying m t k a l = refl
 play-flight M.Aborting m t k a l = refl
 play-flight M.Raw m t k a l = refl
 
-play-nil : (d : Mode) (m : Memory) (t : Transfer) (k : Outcome → Wire) → play (flight d m t k) [] ≡ stopped m
+pub play-nil : (d : Mode) (m : Memory) (t : Transfer) (k : Outcome → Wire) → play (flight d m t k) [] ≡ stopped m
 unfolding play
 play-nil M.Trying m t k = refl
 play-nil M.Aborting m t k = refl

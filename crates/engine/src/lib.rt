@@ -172,7 +172,7 @@ fn call_start(c: EngineCall, words: usize, bytes: usize) -> Asks
 }
 
 // The transport call that is due while a transfer is in flight: ABORT after an error.
-fn due(t: Transfer) -> Call
+pub fn due(t: Transfer) -> Call
     ensures { λ c. ⌜ c ≡ dueOf (t .mode) t ⌝ }
 {
     let mode = t.mode;
@@ -574,7 +574,7 @@ fn core_frame(c: CoreCall) -> Frame
     }
 }
 
-fn frame_for(c: EngineCall) -> Frame
+pub fn frame_for(c: EngineCall) -> Frame
     ensures { λ r. ⌜ r ≡ frameFor c ⌝ }
 {
     match c {
@@ -587,7 +587,7 @@ fn frame_for(c: EngineCall) -> Frame
 }
 
 // A frame from the first eight places of one list to those of another.
-fn copy_frame(from: &[u32], to: &mut [u32])
+pub fn copy_frame(from: &[u32], to: &mut [u32])
     ensures { λ _. ⌜ now (to .exit) ≡ sets (now (to .entry)) 0 (frameOf (now (from .entry))) ⌝ }
 {
     memap::place_word(to, 0, memap::word_at(from, 0));
@@ -601,7 +601,7 @@ fn copy_frame(from: &[u32], to: &mut [u32])
 }
 
 // The row that a call runs over: zeros, and the frame that it finds.
-fn row_for(f: Frame, words: &[u32]) -> [u32; 64]
+pub fn row_for(f: Frame, words: &[u32]) -> [u32; 64]
     ensures { λ r. ⌜ r ≡ rowWith f (now (words .entry)) ⌝ }
 {
     match f {
@@ -616,7 +616,7 @@ fn row_for(f: Frame, words: &[u32]) -> [u32; 64]
 }
 
 // The frame that a call leaves goes to the caller's words.
-fn keep_frame(f: Frame, row: &[u32], words: &mut [u32])
+pub fn keep_frame(f: Frame, row: &[u32], words: &mut [u32])
     ensures { λ _. ⌜ now (words .exit) ≡ leave f (now (row .entry)) (now (words .entry)) ⌝ }
 {
     match f {
