@@ -61,12 +61,12 @@ unfolding patchBytes
 bytes-patched w skip b = record { start = refl; turn = λ (k : ℕ). refl }
 
 -- a place past the end is the end
-take-min : (at : ℕ) (b : List ℕ) → take (min at (length b)) b ≡ take at b
+pub take-min : (at : ℕ) (b : List ℕ) → take (min at (length b)) b ≡ take at b
 take-min zero b = rw (zero-min (length b))
 take-min (suc at) [] = rw (min-zero (suc at))
 take-min (suc at) (x ∷ b) = rw (suc-min-suc at (length b)) (ap (λ (r : List ℕ). x ∷ r) (take-min at b))
 
-drop-min : (at : ℕ) (b : List ℕ) → drop (min at (length b)) b ≡ drop at b
+pub drop-min : (at : ℕ) (b : List ℕ) → drop (min at (length b)) b ≡ drop at b
 drop-min zero b = rw (zero-min (length b))
 drop-min (suc at) [] = rw (min-zero (suc at))
 drop-min (suc at) (x ∷ b) = rw (suc-min-suc at (length b)) (drop-min at b)

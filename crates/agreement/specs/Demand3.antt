@@ -1,0 +1,212 @@
+-- Demand 3: what is claimed of every list of session calls over target and line (01: "The session").
+use Prim.Native.Nat.{ℕ, _+_, _-_, _<_, _≤_}
+use mathlib.Core.Bool.{Bool, true, false, not, _&&_, _||_}
+use mathlib.Core.List.{List, [], _∷_}
+use mathlib.Core.Path.{_≡_}
+use lib.Dec.{eqb, leb, ltb}
+use lib.ListN.{length, getD, drop}
+use Rattle.transport.specs.Bytes.{leBytes}
+use Rattle.transport.specs.Wire.{Ending, ended, spent}
+use Rattle.transport.specs.declared.Call.{Call}
+use Rattle.transport.specs.declared.Call.the-variants as W
+use Rattle.transport.specs.declared.Answer.{Answer}
+use Rattle.transport.specs.declared.Answer.the-variants.{Good, SwdError, NotSupported, Other}
+use Rattle.transport.specs.declared.Outcome.the-variants.{Value, Failed}
+use Rattle.transport.specs.declared.Remembered.{Remembered}
+use Rattle.memap.specs.Ports.{CSW-DEFAULT}
+use Rattle.target.specs.Choice.{pick}
+use Rattle.target.specs.Memory.{byteAt}
+use Rattle.target.specs.declared.Target.{Target}
+use Rattle.target.specs.declared.Act.{Act}
+use Rattle.target.specs.declared.Byte.{Byte}
+use Rattle.target.specs.declared.Byte.the-variants as B
+use Rattle.target_run.specs.Talk.{Talk, talk, silent}
+use Rattle.session_rules.specs.Admits.{isConnect, refusal}
+use Rattle.session_rules.specs.Session.{Standing, closed, Called, called, checked, sessionTree, succeeds, loss}
+use Rattle.session_rules.specs.declared.SessionCall.{SessionCall}
+use Rattle.session_rules.specs.declared.SessionCall.the-variants as S
+use Rattle.session_rules.specs.declared.Check.{Check}
+use Rattle.session_rules.specs.declared.Check.the-variants.{Pass, Refuse}
+
+-- one call of a list, with its budget and buffer
+pub record Item : Type 0 where
+  pub call : SessionCall
+  pub budget : ℕ
+  pub buf : List ℕ
+
+-- the buffers of a list hold bytes
+abbrev pub Bytes : List ℕ → Type 0
+Bytes l = (i : ℕ) → getD l i 0 < 256
+
+abbrev pub Buffers : List Item → Type 0
+Buffers [] = Unit {0}
+Buffers (i ∷ items) = Bytes (i .buf) × Buffers items
+
+-- session, target and memory between two calls
+pub record Moment : Type 0 where
+  pub standing : Standing
+  pub target : Target
+  pub mem : List ℕ
+
+abbrev pub first : Target → List ℕ → Moment
+first t mem = record { standing = closed; target = t; mem = mem }
+
+-- a call that was made: how it found things, what was answered, what came of it, and how it left them
+pub record Made : Type 0 where
+  pub item : Item
+  pub before : Moment
+  pub answers : List Answer
+  pub came : Called
+  pub after : Moment
+
+-- what the session hears during a call, and the target afterwards
+abbrev pub heardIf : Check → Moment → Item → List Act → Talk
+heardIf (Refuse e) x i acts = silent (x .target) (x .mem)
+heardIf Pass x i acts = talk (sessionTree (x .standing) (i .call) (i .buf)) (i .budget) acts (x .target) (x .mem)
+
+-- a call, by what its checks came to
+abbrev pub madeIf : Check → Moment → Item → List Act → Made
+madeIf k x i acts = record {
+  item = i;
+  before = x;
+  answers = heardIf k x i acts .answers;
+  came = checked k (x .standing) (i .call) (i .buf) (heardIf k x i acts .answers);
+  after = record {
+    standing = checked k (x .standing) (i .call) (i .buf) (heardIf k x i acts .answers) .after;
+    target = heardIf k x i acts .target;
+    mem = heardIf k x i acts .mem } }
+
+abbrev pub made : Moment → Item → List Act → Made
+made x i acts = madeIf (refusal (x .standing .isOpen) (i .call) (length (i .buf))) x i acts
+
+-- each call finds session and target as the last one left them, and the line as it goes on
+unfoldable pub history : Moment → List Item → List Act → List Made
+history x [] acts = []
+history x (i ∷ items) acts = made x i acts ∷ history (made x i acts .after) items (drop (length (made x i acts .answers)) acts)
+
+abbrev pub lastOf : Moment → List Made → Moment
+lastOf x [] = x
+lastOf x (m ∷ ms) = lastOf (m .after) ms
+
+-- Clause 1: open by the calls, their results and the answers alone.
+abbrev pub isTransfer : Call → Bool
+isTransfer (W.Transfer request word) = true
+isTransfer W.Connect = false
+isTransfer (W.Sequence p) = false
+isTransfer (W.Pins output select wait) = false
+isTransfer (W.WriteBits bits word) = false
+isTransfer W.OutputEnable = false
+
+-- an error that an ABORT follows: any but WAIT
+abbrev pub aborts : Answer → Bool
+aborts (Good v) = false
+aborts (SwdError ack) = not (eqb ack 2)
+aborts NotSupported = true
+aborts Other = true
+
+-- whether a transport call was lost; the one right after a failed transfer is its ABORT, whose answer is ignored
+unfoldable pub lossAmong : Bool → List Call → List Answer → Bool
+lossAmong abort [] answers = false
+lossAmong abort (c ∷ calls) [] = false
+lossAmong true (c ∷ calls) (a ∷ answers) = lossAmong false calls answers
+lossAmong false (c ∷ calls) (a ∷ answers) = loss a || lossAmong (isTransfer c && aborts a) calls answers
+
+abbrev pub isSpent : Ending → Bool
+isSpent (ended o) = false
+isSpent spent = true
+
+abbrev pub closes : SessionCall → List Call → List Answer → Ending → Bool
+closes c calls answers e = isSpent e || (isConnect c && not (succeeds e)) || lossAmong false calls answers
+
+abbrev pub opens : SessionCall → Ending → Bool
+opens c e = isConnect c && succeeds e
+
+abbrev pub openNext : Bool → SessionCall → List Call → List Answer → Ending → Bool
+openNext was c calls answers e = not (closes c calls answers e) && (opens c e || was)
+
+unfoldable pub openAfter : Bool → List Made → Bool
+openAfter was [] = was
+openAfter was (m ∷ ms) = openAfter (openNext was (m .item .call) (m .came .calls) (m .answers) (m .came .ending)) ms
+
+-- Clause 2: what is remembered is the target's; SELECT 0xFFFFFFFF claims nothing, nor does a CSW that is not known.
+pub record Agree (r : Remembered) (t : Target) : Type 0 where
+  pub select : (r .select ≡ 0xFFFFFFFF → ⊥) → t .select ≡ r .select
+  pub csw : r .csw ≡ true → t .csw ≡ CSW-DEFAULT
+
+-- Clauses 3 and 4: the bytes of memory.
+abbrev pub byte : Moment → ℕ → Byte
+byte x a = byteAt (x .target) (x .mem) a
+
+-- whether an address is one of n from `addr` on
+abbrev pub among : ℕ → ℕ → ℕ → Bool
+among addr n a = leb addr a && ltb a (addr + n)
+
+-- bytes given to the caller are the target's
+abbrev pub Gives : Moment → ℕ → List ℕ → Type 0
+Gives x addr bytes = (i : ℕ) → i < length bytes → byte x (addr + i) ≡ B.Value (getD bytes i 0)
+
+-- a read of n bytes changes nothing, and one that succeeded gave n bytes, the target's
+pub record Reads (m : Made) (addr n : ℕ) (given : List ℕ) : Type 0 where
+  pub same : (a : ℕ) → byte (m .after) a ≡ byte (m .before) a
+  pub whole : succeeds (m .came .ending) ≡ true → length given ≡ n
+  pub gives : succeeds (m .came .ending) ≡ true → Gives (m .before) addr given
+
+-- the byte at a that `new` from `addr` on makes of an old one
+abbrev pub renewed : ℕ → List ℕ → ℕ → Byte → Byte
+renewed addr new a old = pick (among addr (length new) a) (B.Value (getD new (a - addr) 0)) old
+
+-- a byte that exists, in the range, and is the new one now
+pub record New (m : Made) (addr : ℕ) (new : List ℕ) (a : ℕ) : Type 0 where
+  pub range : among addr (length new) a ≡ true
+  pub existed : byte (m .before) a ≡ B.Absent → ⊥
+  pub now : byte (m .after) a ≡ B.Value (getD new (a - addr) 0)
+
+pub data OldOrNew (m : Made) (addr : ℕ) (new : List ℕ) (a : ℕ) : Type 0 where
+  old : byte (m .after) a ≡ byte (m .before) a → OldOrNew m addr new a
+  renew : New m addr new a → OldOrNew m addr new a
+
+pub record Writes (m : Made) (addr : ℕ) (new : List ℕ) : Type 0 where
+  pub whole : succeeds (m .came .ending) ≡ true → (a : ℕ) → byte (m .after) a ≡ renewed addr new a (byte (m .before) a)
+  pub partly : (a : ℕ) → OldOrNew m addr new a
+
+-- the bytes that call 9 gives: those of its value
+abbrev pub valueBytes : Ending → List ℕ
+valueBytes (ended (Value v)) = leBytes v
+valueBytes (ended (Failed e)) = []
+valueBytes spent = []
+
+abbrev pub MemoryKept : SessionCall → Made → Type 0
+MemoryKept S.ConnectSwd m = Unit {0}
+MemoryKept (S.ReadWord addr) m = Reads m addr 4 (valueBytes (m .came .ending))
+MemoryKept (S.WriteWord addr word) m = Writes m addr (leBytes word)
+MemoryKept (S.ReadMem addr) m = Reads m addr (length (m .item .buf)) (m .came .buf)
+MemoryKept (S.WriteMem addr) m = Writes m addr (m .item .buf)
+MemoryKept (S.Core c) m = Unit {0}
+MemoryKept (S.Fpb c) m = Unit {0}
+
+pub data Each (P : Made → Type 0) : List Made → Type 0 where
+  none : Each P []
+  and : {m : Made} {ms : List Made} → P m → Each P ms → Each P (m ∷ ms)
+
+-- the one claim about a list
+pub record InStep (x : Moment) (ms : List Made) : Type 0 where
+  pub opened : lastOf x ms .standing .isOpen ≡ openAfter false ms
+  pub agree : lastOf x ms .standing .isOpen ≡ true → Agree (lastOf x ms .standing .remembered) (lastOf x ms .target)
+  pub memory : Each (λ m. MemoryKept (m .item .call) m) ms
+
+-- Clause 1 alone, with arbitrary answers in place of a target: that is what rules out a session that opens after NoTarget, an
+-- answer that no target with another DPIDR gives.
+pub record Told : Type 0 where
+  pub call : SessionCall
+  pub buf : List ℕ
+  pub answers : List Answer
+
+unfoldable pub standingAfter : Standing → List Told → Standing
+standingAfter s [] = s
+standingAfter s (x ∷ xs) = standingAfter (called s (x .call) (x .buf) (x .answers) .after) xs
+
+unfoldable pub openTold : Bool → Standing → List Told → Bool
+openTold was s [] = was
+openTold was s (x ∷ xs) =
+    openTold (openNext was (x .call) (called s (x .call) (x .buf) (x .answers) .calls) (x .answers) (called s (x .call) (x .buf) (x .answers) .ending))
+    (called s (x .call) (x .buf) (x .answers) .after) xs

@@ -1,0 +1,3 @@
+pub mod LookLaw
+pub mod ThinBufLaw
+pub mod ThinLaw

@@ -1,0 +1,3 @@
+pub mod Ends
+pub mod Starts
+pub mod Step

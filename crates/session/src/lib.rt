@@ -1,0 +1,252 @@
+// The session: the engine's calls that 01 admits, over what is remembered between them.
+ghost use mathlib.Core.Bool.{false, _||_};
+ghost use mathlib.Core.List.{List};
+ghost use mathlib.Core.Path.{_≡_};
+ghost use Prim.Native.Nat.{ℕ};
+ghost use lib.ListN.{replicate};
+ghost use Rattle.transport.specs.Wire.{Wire, follow};
+ghost use Rattle.engine.specs.Calls.{frameOf, rowFor};
+ghost use Rattle.engine.specs.State.{stateTree};
+ghost use Rattle.engine.specs.Step.{Steps};
+ghost use Rattle.session_rules.specs.Session.{closed, kindOf, sessionTree};
+ghost use Rattle.session_rules.specs.declared.Phase.the-variants.{Closed};
+ghost use Rattle.session.specs.Step.{standing, lostBy, Answers, Refused, Started, Stepped};
+ghost use Rattle.session.specs.Ends.{frameEnded, phaseFor, frameAt, lossIn};
+use calls_connect::ConnectAt;
+use engine::{At, EngineCall, NextStep, State, StepAnswer};
+use memap::Op;
+use session_rules::{Check, Kind, Phase, SessionCall};
+use transport::{Answer, ArmError, Mode, Outcome, Remembered};
+
+// `state` has what is remembered and the call in flight, `row` the words of its runs, `frame` what call 23 left and 24 takes.
+pub struct Session {
+    pub phase: Phase,
+    pub state: State,
+    pub row: [u32; 64],
+    pub frame: [u32; 8],
+}
+
+// The next transport call or the call's ending, and the bytes of a sequence.
+pub struct Reply {
+    pub next: NextStep,
+    pub bytes: [u8; 16],
+}
+
+pub struct SessionAnswer {
+    pub session: Session,
+    pub reply: Reply,
+}
+
+// The row that a call runs over: zeros, and for call 24 the frame that 23 left.
+fn row_of(c: EngineCall, frame: [u32; 8]) -> [u32; 64]
+    ensures { λ r. ⌜ r ≡ rowFor c frame ⌝ }
+{
+    let f = engine::frame_for(c);
+    engine::row_for(f, &frame)
+}
+
+// The frame in a row's first eight words.
+fn frame_of(row: [u32; 64]) -> [u32; 8]
+    ensures { λ r. ⌜ r ≡ frameOf row ⌝ }
+{
+    let mut frame = [0u32; 8];
+    engine::copy_frame(&row, &mut frame);
+    frame
+}
+
+// The answer of an ABORT is ignored: a loss of it is none.
+fn loss_in(mode: Mode, a: Answer) -> bool
+    ensures { λ r. ⌜ r ≡ lossIn mode a ⌝ }
+{
+    match mode {
+        Mode::Trying => session_rules::is_loss(a),
+        Mode::Aborting => false,
+        Mode::Raw => session_rules::is_loss(a),
+    }
+}
+
+// Whether an answer shows that the transport call due was lost.
+fn lost_by(s: State, a: Answer) -> bool
+    ensures { λ r. ⌜ ((ws b : List ℕ) → r ≡ lostBy (stateTree s ws b) a) ⌝ }
+{
+    let started = s.started;
+    let launched = started.launched;
+    let t = launched.transfer;
+    let mode = t.mode;
+    loss_in(mode, a)
+}
+
+// Call 23 leaves its frame where it succeeds.
+fn frame_ended(kind: Kind, ok: bool, row: [u32; 64], frame: [u32; 8]) -> [u32; 8]
+    ensures { λ r. ⌜ r ≡ frameEnded kind ok row frame ⌝ }
+{
+    match kind {
+        Kind::Connect => frame,
+        Kind::Frame => {
+            if ok {
+                return frame_of(row);
+            }
+            frame
+        }
+        Kind::Plain => frame,
+    }
+}
+
+// A call that has not ended runs on.
+fn phase_at(kind: Kind, lost: bool, next: NextStep) -> Phase
+    ensures { λ r. ⌜ r ≡ phaseFor kind lost next ⌝ }
+{
+    match next {
+        NextStep::Make(_) => Phase::Running { kind: kind, lost: lost },
+        NextStep::Finish(e) => session_rules::phase_ended(kind, lost, e.number == 0),
+    }
+}
+
+// A frame stays as it was until the call ends.
+fn frame_at(kind: Kind, next: NextStep, row: [u32; 64], frame: [u32; 8]) -> [u32; 8]
+    ensures { λ r. ⌜ r ≡ frameAt kind next row frame ⌝ }
+{
+    match next {
+        NextStep::Make(_) => frame,
+        NextStep::Finish(e) => frame_ended(kind, e.number == 0, row, frame),
+    }
+}
+
+// The session after a step of the engine.
+fn settled(kind: Kind, lost: bool, frame: [u32; 8], row: [u32; 64], x: StepAnswer) -> SessionAnswer
+    ensures { λ r. ⌜ ((w : Wire) (b : List ℕ) → Steps w x row b → Answers kind lost frame w (r .session) (r .reply) b) ⌝ }
+{
+    let next = x.next;
+    let state = x.state;
+    let bytes = x.bytes;
+    let phase = phase_at(kind, lost, next);
+    let left = frame_at(kind, next, row, frame);
+    SessionAnswer {
+        session: Session { phase: phase, state: state, row: row, frame: left },
+        reply: Reply { next: next, bytes: bytes },
+    }
+}
+
+// Nothing is changed.
+fn refused(s: Session, e: ArmError) -> SessionAnswer
+    ensures { λ r. ⌜ ((b : List ℕ) → Refused e s (r .session) (r .reply) b b) ⌝ }
+{
+    let x = numbers::result_of(Outcome::Failed(e));
+    SessionAnswer { session: s, reply: Reply { next: NextStep::Finish(x), bytes: [0u8; 16] } }
+}
+
+// The start of a call that is not refused. It runs over no words of the caller.
+fn begun(s: Session, c: SessionCall, buf: &mut [u8]) -> SessionAnswer
+    ensures { λ r. ⌜ Answers (kindOf c) false (s .frame) (sessionTree (standing s) c (now (buf .entry))) (r .session) (r .reply) (now (buf .exit)) ⌝ }
+{
+    let state = s.state;
+    let frame = s.frame;
+    let e = session_rules::engine_call(c);
+    let r = session_rules::remembered_for(session_rules::is_connect(c), state.remembered);
+    let mut row = row_of(e, frame);
+    let mut none = [0u32; 0];
+    let x = engine::start(r, e, &mut row, &mut none, buf);
+    let kind = session_rules::kind_of(c);
+    settled(kind, false, frame, row, x)
+}
+
+// A loss is remembered until the call's end.
+fn has_lost(lost: bool, s: State, a: Answer) -> bool
+    ensures { λ r. ⌜ ((ws b : List ℕ) → r ≡ (lost || lostBy (stateTree s ws b) a)) ⌝ }
+{
+    if lost {
+        return true;
+    }
+    lost_by(s, a)
+}
+
+// One step of the engine over a row of the session's own, whatever the state says of the caller's words.
+fn stepped(s: State, a: Answer, row: &mut [u32; 64], buf: &mut [u8]) -> StepAnswer
+    ensures { λ x. ⌜ Steps (follow (stateTree s (now (row .entry)) (now (buf .entry))) a) x (now (row .exit)) (now (buf .exit)) ⌝ }
+{
+    let r = s.remembered;
+    let at = s.at;
+    let started = s.started;
+    let mut none = [0u32; 0];
+    engine::step(State { remembered: r, at: at, started: started, own: false }, a, row, &mut none, buf)
+}
+
+// One step of the call under way.
+fn moved(s: Session, kind: Kind, lost: bool, a: Answer, buf: &mut [u8]) -> SessionAnswer
+    ensures { λ r. ⌜ Answers kind (lost || lostBy (stateTree (s .state) (s .row) (now (buf .entry))) a) (s .frame) (follow (stateTree (s .state) (s .row) (now (buf .entry))) a) (r .session) (r .reply) (now (buf .exit)) ⌝ }
+{
+    let state = s.state;
+    let frame = s.frame;
+    let mut row = s.row;
+    let by_now = has_lost(lost, state, a);
+    let x = stepped(state, a, &mut row, buf);
+    settled(kind, by_now, frame, row, x)
+}
+
+// A session that has made no call: closed, and nothing known of the target.
+pub fn fresh() -> Session
+    ensures { λ r. ⌜ (standing r ≡ closed) × (r .phase ≡ Closed) × (r .row ≡ replicate 64 0) ⌝ }
+{
+    let r = Remembered { select: 0xFFFFFFFF, csw: false, apsel: 0 };
+    let started = memap::op_start(r, Op::DpRead { addr: 0 });
+    let state = State { remembered: r, at: At::Connect(ConnectAt::Pulse), started: started, own: false };
+    Session { phase: Phase::Closed, state: state, row: [0u32; 64], frame: [0u32; 8] }
+}
+
+// Whether a session is open.
+pub fn open(s: Session) -> bool
+    ensures { λ r. ⌜ r ≡ standing s .isOpen ⌝ }
+{
+    let phase = s.phase;
+    session_rules::is_open(phase)
+}
+
+// The start of a call: its first transport call, or its ending where it makes none.
+pub fn session_start(s: Session, c: SessionCall, buf: &mut [u8]) -> SessionAnswer
+    ensures { λ r. ⌜ Started s c (now (buf .entry)) (r .session) (r .reply) (now (buf .exit)) ⌝ }
+{
+    let phase = s.phase;
+    match session_rules::check_call(session_rules::is_open(phase), c, buf.len()) {
+        Check::Refuse(e) => refused(s, e),
+        Check::Pass => begun(s, c, buf),
+    }
+}
+
+// One step: the last answer in, the next transport call or the ending out. Refused where no call is under way.
+pub fn session_step(s: Session, a: Answer, buf: &mut [u8]) -> SessionAnswer
+    ensures { λ r. ⌜ Stepped s a (now (buf .entry)) (r .session) (r .reply) (now (buf .exit)) ⌝ }
+{
+    let phase = s.phase;
+    match phase {
+        Phase::Closed => refused(s, ArmError::NoSession),
+        Phase::Open => refused(s, ArmError::NoSession),
+        Phase::Running { kind, lost } => moved(s, kind, lost, a, buf),
+    }
+}
+
+// Start and step for a caller who keeps the session: it is taken out whole, stepped by value, and stored back.
+pub fn start(s: &mut Session, c: SessionCall, buf: &mut [u8]) -> Reply
+    ensures { λ r. ⌜ Started (now (s .entry)) c (now (buf .entry)) (now (s .exit)) r (now (buf .exit)) ⌝ }
+{
+    let now = *s;
+    let r = session_start(now, c, buf);
+    *s = r.session;
+    r.reply
+}
+
+pub fn step(s: &mut Session, a: Answer, buf: &mut [u8]) -> Reply
+    ensures { λ r. ⌜ Stepped (now (s .entry)) a (now (buf .entry)) (now (s .exit)) r (now (buf .exit)) ⌝ }
+{
+    let now = *s;
+    let r = session_step(now, a, buf);
+    *s = r.session;
+    r.reply
+}
+
+// Whether the session that a caller keeps is open.
+pub fn is_open_now(s: &mut Session) -> bool
+    ensures { λ r. ⌜ (r ≡ standing (now (s .entry)) .isOpen) × (now (s .exit) ≡ now (s .entry)) ⌝ }
+{
+    let now = *s;
+    open(now)
+}

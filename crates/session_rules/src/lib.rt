@@ -1,0 +1,236 @@
+// The rules of a session that need no engine's step: which calls it admits, what it knows of each, and how a call's end leaves it.
+ghost use mathlib.Core.Bool.{not};
+ghost use mathlib.Core.Path.{_≡_};
+ghost use Prim.Native.Nat.{_+_};
+ghost use lib.Dec.{leb};
+ghost use Rattle.session_rules.specs.Admits.{engineCall, isConnect, aligned, ranged, admitted, refusal};
+ghost use Rattle.session_rules.specs.Session.{isOpen, loss, rememberedFor, coreKind, kindOf};
+ghost use Rattle.session_rules.specs.Ended.{phaseEnded};
+use calls_connect::ConnectCall;
+use calls_core::CoreCall;
+use calls_fpb::FpbCall;
+use calls_memory::MemoryCall;
+use engine::EngineCall;
+use transport::{Answer, ArmError, Remembered};
+
+// Calls 3, 9, 10, 13, 14, 15 to 25 and 26 to 28.
+pub enum SessionCall {
+    ConnectSwd,
+    ReadWord(u32),
+    WriteWord(u32, u32),
+    ReadMem(u32),
+    WriteMem(u32),
+    Core(CoreCall),
+    Fpb(FpbCall),
+}
+
+pub enum Check {
+    Pass,
+    Refuse(ArmError),
+}
+
+// What the running call's end needs to know of it: a connect decides alone whether the session is open; call 23 leaves a frame.
+pub enum Kind {
+    Connect,
+    Frame,
+    Plain,
+}
+
+// While a call runs the session counts as closed, so that a call that is never brought to its end, Spent, leaves it closed.
+// `lost`: an answer was an error other than WAIT and FAULT.
+pub enum Phase {
+    Closed,
+    Open,
+    Running { kind: Kind, lost: bool },
+}
+
+// Whether a session may be asked for a call other than connect.
+pub fn is_open(p: Phase) -> bool
+    ensures { λ r. ⌜ r ≡ isOpen p ⌝ }
+{
+    match p {
+        Phase::Closed => false,
+        Phase::Open => true,
+        Phase::Running { .. } => false,
+    }
+}
+
+// The engine's call that a session's call is.
+pub fn engine_call(c: SessionCall) -> EngineCall
+    ensures { λ r. ⌜ r ≡ engineCall c ⌝ }
+{
+    match c {
+        SessionCall::ConnectSwd => EngineCall::Connect(ConnectCall::ConnectSwd),
+        SessionCall::ReadWord(addr) => EngineCall::Memory(MemoryCall::ReadWord(addr)),
+        SessionCall::WriteWord(addr, word) => EngineCall::Memory(MemoryCall::WriteWord(addr, word)),
+        SessionCall::ReadMem(addr) => EngineCall::Memory(MemoryCall::ReadMem(addr)),
+        SessionCall::WriteMem(addr) => EngineCall::Memory(MemoryCall::WriteMem(addr)),
+        SessionCall::Core(q) => EngineCall::Core(q),
+        SessionCall::Fpb(q) => EngineCall::Fpb(q),
+    }
+}
+
+// A connect decides by itself whether the session is open.
+pub fn is_connect(c: SessionCall) -> bool
+    ensures { λ r. ⌜ r ≡ isConnect c ⌝ }
+{
+    match c {
+        SessionCall::ConnectSwd => true,
+        SessionCall::ReadWord(_) => false,
+        SessionCall::WriteWord(_, _) => false,
+        SessionCall::ReadMem(_) => false,
+        SessionCall::WriteMem(_) => false,
+        SessionCall::Core(_) => false,
+        SessionCall::Fpb(_) => false,
+    }
+}
+
+// A closed session admits a connect alone.
+fn is_admitted(now_open: bool, c: SessionCall) -> bool
+    ensures { λ r. ⌜ r ≡ admitted now_open c ⌝ }
+{
+    if now_open {
+        return true;
+    }
+    is_connect(c)
+}
+
+// Calls 9 and 10 want a multiple of 4.
+fn is_aligned(c: SessionCall) -> bool
+    ensures { λ r. ⌜ r ≡ aligned c ⌝ }
+{
+    match c {
+        SessionCall::ConnectSwd => true,
+        SessionCall::ReadWord(addr) => addr % 4 == 0,
+        SessionCall::WriteWord(addr, _) => addr % 4 == 0,
+        SessionCall::ReadMem(_) => true,
+        SessionCall::WriteMem(_) => true,
+        SessionCall::Core(_) => true,
+        SessionCall::Fpb(_) => true,
+    }
+}
+
+// As many addresses as a target has: 2^32.
+const ADDRESSES: usize = 0x100000000;
+
+// Whether so many bytes from an address on end below 2^32.
+fn ends_below(addr: u32, bytes: usize) -> bool
+    ensures { λ r. ⌜ r ≡ not (leb 0x100000000 (addr + bytes)) ⌝ }
+{
+    if ADDRESSES <= bytes {
+        return false;
+    }
+    if ADDRESSES <= (addr as usize) + bytes {
+        return false;
+    }
+    true
+}
+
+// Calls 13 and 14 end below 2^32.
+fn is_ranged(c: SessionCall, bytes: usize) -> bool
+    ensures { λ r. ⌜ r ≡ ranged c bytes ⌝ }
+{
+    match c {
+        SessionCall::ConnectSwd => true,
+        SessionCall::ReadWord(_) => true,
+        SessionCall::WriteWord(_, _) => true,
+        SessionCall::ReadMem(addr) => ends_below(addr, bytes),
+        SessionCall::WriteMem(addr) => ends_below(addr, bytes),
+        SessionCall::Core(_) => true,
+        SessionCall::Fpb(_) => true,
+    }
+}
+
+// The checks in 01's order: 10, 9, 8.
+pub fn check_call(now_open: bool, c: SessionCall, bytes: usize) -> Check
+    ensures { λ r. ⌜ r ≡ refusal now_open c bytes ⌝ }
+{
+    if !is_admitted(now_open, c) {
+        return Check::Refuse(ArmError::NoSession);
+    }
+    if !is_aligned(c) {
+        return Check::Refuse(ArmError::Align);
+    }
+    if !is_ranged(c, bytes) {
+        return Check::Refuse(ArmError::Range);
+    }
+    Check::Pass
+}
+
+// Call 23 alone leaves a frame.
+fn core_kind(c: CoreCall) -> Kind
+    ensures { λ r. ⌜ r ≡ coreKind c ⌝ }
+{
+    match c {
+        CoreCall::DebugEnable => Kind::Plain,
+        CoreCall::Halt => Kind::Plain,
+        CoreCall::Resume => Kind::Plain,
+        CoreCall::Step => Kind::Plain,
+        CoreCall::IsHalted => Kind::Plain,
+        CoreCall::ReadCoreReg(_) => Kind::Plain,
+        CoreCall::WriteCoreReg(_, _) => Kind::Plain,
+        CoreCall::RomFuncLookup(_, _) => Kind::Plain,
+        CoreCall::StartFunction(_) => Kind::Frame,
+        CoreCall::FinishFunction(_) => Kind::Plain,
+        CoreCall::CallFunction(_, _) => Kind::Plain,
+    }
+}
+
+// What the end of a call needs to know of it.
+pub fn kind_of(c: SessionCall) -> Kind
+    ensures { λ r. ⌜ r ≡ kindOf c ⌝ }
+{
+    match c {
+        SessionCall::ConnectSwd => Kind::Connect,
+        SessionCall::ReadWord(_) => Kind::Plain,
+        SessionCall::WriteWord(_, _) => Kind::Plain,
+        SessionCall::ReadMem(_) => Kind::Plain,
+        SessionCall::WriteMem(_) => Kind::Plain,
+        SessionCall::Core(q) => core_kind(q),
+        SessionCall::Fpb(_) => Kind::Plain,
+    }
+}
+
+// Each connect starts with SELECT and CSW unknown.
+pub fn remembered_for(connect: bool, r: Remembered) -> Remembered
+    ensures { λ x. ⌜ x ≡ rememberedFor connect r ⌝ }
+{
+    if connect {
+        return Remembered { select: 0xFFFFFFFF, csw: false, apsel: r.apsel };
+    }
+    r
+}
+
+// Whether an answer leaves open what became of the transport call: an error other than WAIT and FAULT.
+pub fn is_loss(a: Answer) -> bool
+    ensures { λ r. ⌜ r ≡ loss a ⌝ }
+{
+    match a {
+        Answer::Good(_) => false,
+        Answer::SwdError(ack) => {
+            if ack == 2 {
+                return false;
+            }
+            ack != 4
+        }
+        Answer::NotSupported => true,
+        Answer::Other => true,
+    }
+}
+
+// A session is open after a call without a loss; after a connect only if it succeeded.
+pub fn phase_ended(kind: Kind, lost: bool, ok: bool) -> Phase
+    ensures { λ r. ⌜ r ≡ phaseEnded kind lost ok ⌝ }
+{
+    if lost {
+        return Phase::Closed;
+    }
+    if ok {
+        return Phase::Open;
+    }
+    match kind {
+        Kind::Connect => Phase::Closed,
+        Kind::Frame => Phase::Open,
+        Kind::Plain => Phase::Open,
+    }
+}

@@ -1,0 +1,14 @@
+-- The line's answer goes into the step; the target and the memory are what the line left.
+use Rattle.session_run.specs.Turn.{turn-of}
+use borrow.Author.Needs.{needs}
+use Rattle.session_run.proofs.turn.Statement.{statement}
+use Rattle.session_run.proofs.turn.Tie as tie
+
+pub turn-spec : {M : Type 1} → statement M
+turn-spec =
+    tie.close (tie.spec
+    (λ c κs. search needs) (λ c κs. search needs) (λ c κs. search needs) (λ c. search needs) (λ c. search needs)
+    (λ c. let b4 = c .before .before .before .before in let b9 = b4 .before .before .before .before .before in let b11 = b9 .before .before in
+      let a = b11 .before .before .before .args in turn-of (a .s) (a .act) (a .t) (a .mem .now) (a .buf .now) (b11 .due .result) (b9 .over-line
+      .result)
+      (b4 .session-step .result) _ _ (b11 .due .ensures) (b9 .over-line .ensures .0) (b9 .over-line .ensures .1) (b4 .session-step .ensures)))

@@ -1,0 +1,156 @@
+-- A walk that has arrived, with a session that stands there, is what `made` says. Serves the proofs only.
+use Prim.Native.Nat.{ℕ}
+use mathlib.Core.Bool.{Bool, true, false, not, _&&_, _||_}
+use mathlib.Core.List.{List, []}
+use mathlib.Core.Path.{_≡_, refl, sym, ap, _∙_}
+use lib.ListN.{length}
+use native.Mathlib.Omega.{arith}
+use Rattle.transport.specs.Wire.{Wire, Memory, done, ask, tell, play, Ending, ended, spent}
+use Rattle.transport.specs.declared.ArmError.{ArmError}
+use Rattle.transport.specs.declared.Outcome.{Outcome}
+use Rattle.transport.specs.declared.Outcome.the-variants.{Value, Failed}
+use Rattle.transport.specs.declared.Remembered.{Remembered}
+use Rattle.memap.specs.Flight.{memoryOf}
+use Rattle.numbers.specs.Results.{endingOf, resultOf}
+use Rattle.numbers.specs.declared.CallEnding.{CallEnding}
+use Rattle.calls_core.specs.declared.CoreCall.{CoreCall}
+use Rattle.calls_core.specs.declared.CoreCall.the-variants as C
+use Rattle.engine.specs.Step.{memoryIn, Waits}
+use Rattle.target.specs.declared.Target.{Target}
+use Rattle.target.specs.declared.Act.{Act}
+use Rattle.target_run.specs.Talk.{Talk, talk, silent}
+use Rattle.session_rules.specs.Admits.{isConnect, refusal}
+use Rattle.session_rules.specs.Session.{Standing, kindOf, frameLeft, frameAfter, opensAfter, succeeds, finishes, sessionTree, isOpen, phaseAfter}
+use Rattle.session.specs.Step.{phaseIn, frameIn, standing, Answers}
+use Rattle.session_rules.specs.declared.SessionCall.{SessionCall}
+use Rattle.session_rules.specs.declared.SessionCall.the-variants as S
+use Rattle.session_rules.specs.declared.Check.{Check}
+use Rattle.session_rules.specs.declared.Check.the-variants.{Pass, Refuse}
+use Rattle.session_rules.specs.declared.Kind.{Kind}
+use Rattle.session_rules.specs.declared.Kind.the-variants as K
+use Rattle.session_rules.specs.declared.Phase.{Phase}
+use Rattle.session_rules.specs.declared.Phase.the-variants as P
+use Rattle.session.specs.declared.Session.{Session}
+use Rattle.session.specs.declared.Reply.{Reply}
+use Rattle.agreement.specs.Demand3.{Moment, made, madeIf}
+use Rattle.session_run.specs.declared.CallRan.{CallRan}
+use Rattle.session_run.specs.Ran.{moment, item, CallRuns}
+use Rattle.session_run.specs.Walk.{Arrived}
+
+-- the step's rule for being open is the run's
+plain-opens : (lost : Bool) (o : Outcome) → isOpen (phaseAfter K.Plain lost o) ≡ not lost && (succeeds (ended o) || true)
+plain-opens true o = refl
+plain-opens false (Value v) = refl
+plain-opens false (Failed e) = refl
+
+frame-opens : (lost : Bool) (o : Outcome) → isOpen (phaseAfter K.Frame lost o) ≡ not lost && (succeeds (ended o) || true)
+frame-opens true o = refl
+frame-opens false (Value v) = refl
+frame-opens false (Failed e) = refl
+
+core-opens : (c : CoreCall) (lost : Bool) (o : Outcome) → isOpen (phaseAfter (kindOf (S.Core c)) lost o) ≡ not lost && (succeeds (ended o) || true)
+core-opens C.DebugEnable lost o = plain-opens lost o
+core-opens C.Halt lost o = plain-opens lost o
+core-opens C.Resume lost o = plain-opens lost o
+core-opens C.Step lost o = plain-opens lost o
+core-opens C.IsHalted lost o = plain-opens lost o
+core-opens (C.ReadCoreReg reg) lost o = plain-opens lost o
+core-opens (C.WriteCoreReg reg value) lost o = plain-opens lost o
+core-opens (C.RomFuncLookup a b) lost o = plain-opens lost o
+core-opens (C.StartFunction f) lost o = frame-opens lost o
+core-opens (C.FinishFunction polls) lost o = plain-opens lost o
+core-opens (C.CallFunction f polls) lost o = plain-opens lost o
+
+connect-opens : (lost : Bool) (o : Outcome) → isOpen (phaseAfter K.Connect lost o) ≡ opensAfter S.ConnectSwd lost (ended o)
+connect-opens true o = refl
+connect-opens false (Value v) = refl
+connect-opens false (Failed e) = refl
+
+phase-opens : (c : SessionCall) (lost : Bool) (o : Outcome) → isOpen (phaseAfter (kindOf c) lost o) ≡ opensAfter c lost (ended o)
+phase-opens S.ConnectSwd lost o = connect-opens lost o
+phase-opens (S.ReadWord addr) lost o = plain-opens lost o
+phase-opens (S.WriteWord addr word) lost o = plain-opens lost o
+phase-opens (S.ReadMem addr) lost o = plain-opens lost o
+phase-opens (S.WriteMem addr) lost o = plain-opens lost o
+phase-opens (S.Core c) lost o = core-opens c lost o
+phase-opens (S.Fpb c) lost o = plain-opens lost o
+
+spent-closed : (lost connect : Bool) → false ≡ not lost && (false || not connect && false)
+spent-closed true connect = refl
+spent-closed false true = refl
+spent-closed false false = refl
+
+standing-is : (a b : Bool) (r q : Remembered) (f g : List ℕ) → a ≡ b → r ≡ q → f ≡ g
+  → _≡_ {A = Standing} (record { isOpen = a; remembered = r; frame = f }) (record { isOpen = b; remembered = q; frame = g })
+standing-is a b r q f g h i j = rw (h, i, j)
+
+-- the session at the end of a call, and where its budget ended
+pub record Settles (s₀ : Session) (c : SessionCall) (lost : Bool) (m : Memory) (e : Ending) (s : Session) (lent : List ℕ) : Type 0 where
+  pub stands : standing s ≡ record { isOpen = opensAfter c lost e; remembered = m .remembered; frame = frameAfter c e (m .words) (s₀ .frame) }
+  pub buf : lent ≡ m .buf
+
+pub settles-done : (s₀ : Session) (c : SessionCall) (lost : Bool) (m : Memory) (o : Outcome) (s : Session) (r : Reply) (lent : List ℕ)
+  → Answers (kindOf c) lost (s₀ .frame) (done m o) s r lent → Settles s₀ c lost m (ended o) s lent
+settles-done s₀ c lost m o s r lent h = record {
+  stands = standing-is (isOpen (s .phase)) (opensAfter c lost (ended o)) (s .state .remembered) (m .remembered) (s .frame) (frameLeft (kindOf c) o (m .words) (s₀ .frame))
+    (ap isOpen (h .phase) ∙ phase-opens c lost o) (ap (λ (x : Memory). x .remembered) (h .memory)) (h .frame);
+  buf = ap (λ (x : Memory). x .buf) (h .memory) }
+
+running-closed : (kind : Kind) (lost : Bool) (w : Wire) → Waits w → isOpen (phaseIn kind lost w) ≡ false
+running-closed kind lost (done m o) g = absurd g
+running-closed kind lost (ask m c f) g = refl
+running-closed kind lost (tell m c w) g = refl
+
+pub running-frame : (kind : Kind) (w : Wire) (f : List ℕ) → Waits w → frameIn kind w f ≡ f
+running-frame kind (done m o) f g = absurd g
+running-frame kind (ask m c h) f g = refl
+running-frame kind (tell m c w) f g = refl
+
+pub settles-spent : (s₀ : Session) (c : SessionCall) (lost : Bool) (w : Wire) (s : Session) (r : Reply) (lent : List ℕ) → Waits w
+  → Answers (kindOf c) lost (s₀ .frame) w s r lent → Settles s₀ c lost (memoryIn w) spent s lent
+settles-spent s₀ c lost w s r lent g h = record {
+  stands = standing-is (isOpen (s .phase)) (opensAfter c lost spent) (s .state .remembered) (memoryIn w .remembered) (s .frame) (s₀ .frame)
+    (ap isOpen (h .phase) ∙ running-closed (kindOf c) lost w g ∙ spent-closed lost (isConnect c)) (ap (λ (x : Memory). x .remembered) (h .memory))
+    (h .frame ∙ running-frame (kindOf c) w (s₀ .frame) g);
+  buf = ap (λ (x : Memory). x .buf) (h .memory) }
+
+-- all that a run shows is what `made` says
+module _ (s₀ : Session) (c : SessionCall) (budget : ℕ) (buf₀ : List ℕ) (acts : List Act) (t₀ : Target) (mem₀ : List ℕ) where
+  abbrev pub x₀ : Moment
+  x₀ = moment s₀ t₀ mem₀
+
+  abbrev pub tree : Wire
+  tree = sessionTree (standing s₀) c buf₀
+
+  abbrev pub heard : Talk
+  heard = talk tree budget acts t₀ mem₀
+
+  passed-by : (k : Check) → k ≡ Pass → (r : CallRan) (mem lent : List ℕ) (lost : Bool) (m : Memory) (e : Ending)
+    → Arrived (r .count) lost tree heard m e (r .target) mem → Settles s₀ c lost m e (r .session) lent → r .ending ≡ endingOf e
+    → CallRuns (madeIf k x₀ (item c budget buf₀) acts) r mem lent
+  passed-by (Refuse x) p r mem lent lost m e a s f = let z : _≡_ {A = ℕ} 0 1 = cc in absurd (omega arith)
+  passed-by Pass p r mem lent lost m e a s f = record {
+    count = sym (a .count);
+    ending = f ∙ ap endingOf (sym (a .ending));
+    session = s .stands ∙ rw (a .losses, a .ending, a .memory);
+    target = sym (a .target);
+    mem = sym (a .bytes);
+    buf = s .buf ∙ ap (λ (x : Memory). x .buf) (sym (a .memory)) }
+
+  -- a call that was not refused
+  pub passed : refusal (isOpen (s₀ .phase)) c (length buf₀) ≡ Pass → (r : CallRan) (mem lent : List ℕ) (lost : Bool) (m : Memory) (e : Ending)
+    → Arrived (r .count) lost tree heard m e (r .target) mem → Settles s₀ c lost m e (r .session) lent → r .ending ≡ endingOf e
+    → CallRuns (made x₀ (item c budget buf₀) acts) r mem lent
+  passed p = passed-by (refusal (isOpen (s₀ .phase)) c (length buf₀)) p
+
+  refused-by : (k : Check) (x : ArmError) → k ≡ Refuse x → (r : CallRan) → r .count ≡ 0 → r .ending ≡ resultOf (Failed x) → r .session ≡ s₀ → r .target ≡ t₀
+    → CallRuns (madeIf k x₀ (item c budget buf₀) acts) r mem₀ buf₀
+  refused-by (Refuse y) x p r n f s t =
+      let q : y ≡ x = cc in
+      record { count = n; ending = f ∙ ap (λ (z : ArmError). resultOf (Failed z)) (sym q); session = ap standing s; target = t; mem = refl; buf = refl }
+  refused-by Pass x p r n f s t = let z : _≡_ {A = ℕ} 0 1 = cc in absurd (omega arith)
+
+  -- a call that was
+  pub refused : (x : ArmError) → refusal (isOpen (s₀ .phase)) c (length buf₀) ≡ Refuse x → (r : CallRan) → r .count ≡ 0 → r .ending ≡ resultOf (Failed x)
+    → r .session ≡ s₀ → r .target ≡ t₀ → CallRuns (made x₀ (item c budget buf₀) acts) r mem₀ buf₀
+  refused x p = refused-by (refusal (isOpen (s₀ .phase)) c (length buf₀)) x p

@@ -1,0 +1,369 @@
+// The accident that this project began with, step by step: the answer to a SELECT write is lost, and then the hours word is asked
+// for. Then lists of calls with their endings. The file stdout beside src/ has what 01 says of each.
+use engine::NextStep;
+use numbers::{CallEnding, TransportCall};
+use session::{Reply, Session};
+use session_rules::SessionCall;
+use target::{Act, Loss, Target};
+use transport::{Answer, Call};
+
+// Where the hours word lies, in 1 KiB of memory.
+const HOURS: u32 = 0x20000010;
+
+// The words of a call in a list.
+const ITEM: usize = 11;
+
+pub struct Bench {
+    pub session: Session,
+    pub target: Target,
+}
+
+// A controller after a reset: not powered, another bank selected, an ID register's value left in the read buffer.
+fn controller() -> Target {
+    Target {
+        dpidr: 0x0BC12477,
+        d: 1,
+        width: 10,
+        base: 0x20000000,
+        select: 0xF0,
+        cdbgpwrupreq: false,
+        csyspwrupreq: false,
+        owed: 0,
+        sticky: false,
+        rdbuff: 0x24770011,
+        csw: 0x00000002,
+        tar: 0,
+    }
+}
+
+fn write(text: &[u8]) {
+    io::write_all(1, text);
+}
+
+fn show_hex(word: u32) {
+    io::print_hex(1, word as u64, 8);
+}
+
+// A transfer in full; of another transport call its letter.
+fn show_call(c: TransportCall) {
+    write(b"    ");
+    let kind = c.kind;
+    match kind {
+        0x54 => {
+            write(b"T ");
+            io::print_hex(1, c.request as u64, 1);
+            write(b" ");
+            show_hex(c.word);
+        }
+        0x43 => write(b"C"),
+        _ => write(b"Q"),
+    }
+}
+
+fn show_answer(a: Answer) {
+    match a {
+        Answer::Good(v) => {
+            write(b" -> Ok ");
+            show_hex(v);
+        }
+        Answer::SwdError(k) => {
+            write(b" -> ack ");
+            io::print_decimal(1, k as u64);
+        }
+        Answer::NotSupported => write(b" -> not supported"),
+        Answer::Other => write(b" -> lost"),
+    }
+    write(b"\n");
+}
+
+fn show_ending(e: CallEnding) {
+    io::print_decimal(1, e.number as u64);
+    write(b" ");
+    show_hex(e.value);
+}
+
+fn show_open(s: Session) {
+    if session::open(s) {
+        write(b"open\n");
+    } else {
+        write(b"closed\n");
+    }
+}
+
+fn due(s: Session) -> Call {
+    let state = s.state;
+    let started = state.started;
+    let launched = started.launched;
+    let t = launched.transfer;
+    engine::due(t)
+}
+
+// The line delivers, but loses the answer of the transport call with the number `lost`.
+fn act(n: u32, lost: u32) -> Act {
+    if n == lost {
+        return Act::Lose { delivered: true, error: Loss::Other };
+    }
+    Act::Deliver
+}
+
+// A call under way.
+pub struct Going {
+    pub session: Session,
+    pub reply: Reply,
+    pub target: Target,
+}
+
+// One transport call, shown with its answer.
+fn one_shown(g: Going, call: TransportCall, what: Act, mem: &mut [u8]) -> Going {
+    let mut none = [0u8; 0];
+    let s = g.session;
+    let t = g.target;
+    let d = target::over_line(t, due(s), what, mem);
+    let u = d.target;
+    let a = d.answer;
+    show_call(call);
+    show_answer(a);
+    let r = session::session_step(s, a, &mut none);
+    let s2 = r.session;
+    let reply = r.reply;
+    Going { session: s2, reply: reply, target: u }
+}
+
+fn show_end(e: CallEnding, s: Session) {
+    write(b"    result ");
+    show_ending(e);
+    write(b", session ");
+    show_open(s);
+}
+
+// To the call's end, at most 64 transport calls.
+fn walk(start: Going, lost: u32, mem: &mut [u8]) -> Going {
+    let mut g = start;
+    let mut n: u32 = 0;
+    while n < 64 {
+        n += 1;
+        let r = g.reply;
+        let next = r.next;
+        match next {
+            NextStep::Make(call) => {
+                g = one_shown(g, call, act(n, lost), mem);
+            }
+            NextStep::Finish(e) => {
+                show_end(e, g.session);
+                return g;
+            }
+        }
+    }
+    g
+}
+
+// A call with every transport call shown.
+fn shown(b: Bench, c: SessionCall, lost: u32, mem: &mut [u8; 1024]) -> Bench {
+    let mut none = [0u8; 0];
+    let t = b.target;
+    let r = session::session_start(b.session, c, &mut none);
+    let s = r.session;
+    let reply = r.reply;
+    let g = walk(Going { session: s, reply: reply, target: t }, lost, mem);
+    let s2 = g.session;
+    let u = g.target;
+    Bench { session: s2, target: u }
+}
+
+fn put(mem: &mut [u8; 1024], i: usize, v: u8) {
+    if i < 1024 {
+        mem[i] = v;
+    }
+}
+
+// The hours word is 0x00003039: 12,345 hours.
+fn accident() {
+    let mut mem = [0u8; 1024];
+    put(&mut mem, 16, 0x39);
+    put(&mut mem, 17, 0x30);
+    write(b"the answer to the SELECT write is lost, though the controller did as told\n");
+    let b = Bench { session: session::fresh(), target: controller() };
+    write(b"  connect\n");
+    let b = shown(b, SessionCall::ConnectSwd, 9, &mut mem);
+    write(b"  read the hours word\n");
+    let b = shown(b, SessionCall::ReadWord(HOURS), 0, &mut mem);
+    write(b"  clip and connect afresh\n");
+    let b = shown(b, SessionCall::ConnectSwd, 0, &mut mem);
+    write(b"  read the hours word\n");
+    shown(b, SessionCall::ReadWord(HOURS), 0, &mut mem);
+}
+
+const ENOUGH: u32 = 200;
+
+// Acts of the line: WAIT, a loss after delivery and one before it, both with ack 7.
+const WAIT: u32 = 1;
+
+const LOST: u32 = 30;
+
+const UNSENT: u32 = 31;
+
+// A call of a list at place `at`: its number, budget, bytes and first two arguments.
+fn call(items: &mut [u32; 44], at: usize, number: u32, budget: u32, bytes: u32, a0: u32, a1: u32) {
+    if at <= 33 {
+        items[at] = number;
+        items[at + 1] = budget;
+        items[at + 2] = bytes;
+        items[at + 3] = a0;
+        items[at + 4] = a1;
+    }
+}
+
+// A connect, and room for three more calls.
+fn connected() -> [u32; 44] {
+    let mut items = [0u32; 44];
+    call(&mut items, 0, 3, ENOUGH, 0, 0, 0);
+    items
+}
+
+// `count` acts from `from` on are `code`; a connect makes twelve transport calls.
+fn acts_of(from: usize, count: usize, code: u32) -> [u32; 96] {
+    let mut acts = [0u32; 96];
+    let mut left: usize = 96;
+    while 0 < left {
+        left -= 1;
+        if from <= left {
+            if left - from < count {
+                if left < 96 {
+                    acts[left] = code;
+                }
+            }
+        }
+    }
+    acts
+}
+
+fn show_results(results: &[u64], n: usize) {
+    let mut i: usize = 0;
+    while i < results.len() {
+        if i < n {
+            write(b" ");
+            io::print_decimal(1, results[i] / 0x100000000);
+            write(b" ");
+            io::print_hex(1, results[i] % 0x100000000, 8);
+            write(b",");
+        }
+        i += 1;
+    }
+}
+
+fn wide(x: u8) -> u64 {
+    x as u64
+}
+
+fn show_bytes(bytes: &[u8], n: usize) {
+    let mut i: usize = 0;
+    while i < bytes.len() {
+        if i < n {
+            io::print_hex(1, wide(bytes[i]), 2);
+        }
+        i += 1;
+    }
+}
+
+// Runs a list over the controller and prints its results, whether the session is open, and the first bytes of its buffers.
+fn list(title: &[u8], items: &[u32; 44], acts: [u32; 96], shown: usize) {
+    let mut mem = [0u8; 1024];
+    let mut bytes = [0x11u8, 0x22, 0x33, 0x44, 0x55, 0x66, 0x77, 0x88, 0, 0, 0, 0, 0, 0, 0, 0];
+    let mut results = [0u64; 4];
+    let r = session_run::run_list(session::fresh(), items, &acts, controller(), &mut mem, &mut bytes, &mut results);
+    write(title);
+    write(b":");
+    show_results(&results, r.calls);
+    write(b" ");
+    if 0 < shown {
+        show_bytes(&bytes, shown);
+        write(b", ");
+    }
+    show_open(r.session);
+}
+
+fn refusals() {
+    let quiet = acts_of(0, 0, 0);
+    let mut items = [0u32; 44];
+    call(&mut items, 0, 9, ENOUGH, 0, HOURS, 0);
+    list(b"a read before any connect", &items, quiet, 0);
+    call(&mut items, 0, 9, 0, 0, 0x20000001, 0);
+    list(b"the same, misaligned, with no budget", &items, quiet, 0);
+    items = connected();
+    call(&mut items, 11, 9, 0, 0, 0x20000001, 0);
+    list(b"misaligned, with no budget", &items, quiet, 0);
+    call(&mut items, 11, 13, 0, 4, 0xFFFFFFFC, 0);
+    list(b"four bytes at 0xFFFFFFFC", &items, quiet, 0);
+    call(&mut items, 11, 13, ENOUGH, 3, 0xFFFFFFFC, 0);
+    list(b"three bytes there, outside memory", &items, quiet, 0);
+    call(&mut items, 11, 13, 0, 0, HOURS, 0);
+    list(b"an empty read with no budget", &items, quiet, 0);
+}
+
+fn words() {
+    let quiet = acts_of(0, 0, 0);
+    let mut items = connected();
+    call(&mut items, 11, 10, ENOUGH, 0, HOURS, 0x3039);
+    call(&mut items, 22, 9, ENOUGH, 0, HOURS, 0);
+    list(b"a word written and read", &items, quiet, 0);
+    call(&mut items, 11, 14, ENOUGH, 6, 0x20000003, 0);
+    call(&mut items, 22, 13, ENOUGH, 6, 0x20000003, 0);
+    list(b"six bytes written across words and read", &items, quiet, 12);
+    call(&mut items, 11, 14, ENOUGH, 8, 0x200003FC, 0);
+    call(&mut items, 22, 13, ENOUGH, 4, 0x200003FC, 0);
+    list(b"eight bytes written, four of them past the end", &items, quiet, 12);
+    call(&mut items, 11, 9, ENOUGH, 0, 0x30000000, 0);
+    call(&mut items, 22, 9, ENOUGH, 0, HOURS, 0);
+    list(b"a read outside memory, FAULT, and one inside", &items, quiet, 0);
+}
+
+fn waits() {
+    let mut items = connected();
+    call(&mut items, 11, 9, ENOUGH, 0, HOURS, 0);
+    call(&mut items, 22, 9, ENOUGH, 0, HOURS, 0);
+    list(b"64 WAITs", &items, acts_of(12, 64, WAIT), 0);
+    list(b"65 WAITs", &items, acts_of(12, 65, WAIT), 0);
+}
+
+fn losses() {
+    let mut items = connected();
+    call(&mut items, 11, 9, ENOUGH, 0, HOURS, 0);
+    call(&mut items, 22, 9, ENOUGH, 0, HOURS, 0);
+    list(b"the answer to CSW lost", &items, acts_of(12, 1, LOST), 0);
+    list(b"CSW not sent", &items, acts_of(12, 1, UNSENT), 0);
+    list(b"a read's last answer lost", &items, acts_of(15, 1, LOST), 0);
+    list(b"SELECT not sent", &items, acts_of(8, 1, UNSENT), 0);
+    list(b"WAIT for a line reset", &items, acts_of(1, 1, WAIT), 0);
+    call(&mut items, 11, 9, ENOUGH, 0, 0x30000000, 0);
+    list(b"FAULT, and its ABORT lost", &items, acts_of(16, 1, UNSENT), 0);
+    call(&mut items, 11, 3, ENOUGH, 0, 0, 0);
+    list(b"a second connect, lost at once", &items, acts_of(12, 1, UNSENT), 0);
+    call(&mut items, 11, 24, ENOUGH, 0, 2, 0);
+    list(b"call 24: a loss in its wait, then FAULT", &items, acts_of(13, 1, UNSENT), 0);
+}
+
+fn spent() {
+    let quiet = acts_of(0, 0, 0);
+    let mut items = connected();
+    call(&mut items, 11, 9, 3, 0, HOURS, 0);
+    call(&mut items, 22, 9, ENOUGH, 0, HOURS, 0);
+    list(b"a read that needs four transport calls, with three", &items, quiet, 0);
+    call(&mut items, 11, 9, 4, 0, HOURS, 0);
+    list(b"with four", &items, quiet, 0);
+    call(&mut items, 0, 3, 11, 0, 0, 0);
+    list(b"a connect that needs twelve, with eleven", &items, quiet, 0);
+    items = connected();
+    call(&mut items, 11, 14, ENOUGH, 8, HOURS, 0);
+    call(&mut items, 22, 3, ENOUGH, 0, 0, 0);
+    call(&mut items, 33, 13, ENOUGH, 8, HOURS, 0);
+    list(b"a write lost at its second word, connect, read back", &items, acts_of(15, 1, LOST), 16);
+}
+
+fn main() {
+    accident();
+    refusals();
+    words();
+    waits();
+    losses();
+    spent();
+}
