@@ -1,7 +1,7 @@
 #!/bin/sh
 # Lines by crate: code, believed definitions, other specs (they serve proofs only), proofs, must-fail edits.
 # Blank lines and lines of comment only are not counted. A spec file is believed unless its header says that it serves the
-# proofs, or it holds laws or proved cases.
+# proofs, or it holds laws, theorems or proved cases.
 # Usage: tools/figures.sh
 set -eu
 cd "$(dirname "$0")/.."
@@ -14,7 +14,7 @@ sed -n 's/^\([a-z_0-9]*\):.*/\1/p' crates.txt | while read -r crate; do
     for file in "$dir"/specs/*.antt; do
         [ -f "$file" ] || continue
         case $file in
-            *Laws.antt | */Expected.antt | crates/cases/*) other="$other $file" ;;
+            *Laws.antt | */Expected.antt | */Theorem.antt | */InStep.antt | crates/cases/*) other="$other $file" ;;
             *) if head -n 3 "$file" | grep -qi 'serves* the proofs'; then other="$other $file"; else believed="$believed $file"; fi ;;
         esac
     done
