@@ -175,7 +175,7 @@ fn put_line(out: &mut [u8], at: usize, number: u32, c: Call) -> usize
 }
 
 // A line for each transport call of a log.
-pub fn put_calls(out: &mut [u8], at: usize, log: &[u64]) -> usize
+pub(crate) fn put_calls(out: &mut [u8], at: usize, log: &[u64]) -> usize
     requires { ⌜ (at ≤ 2 ^ 57) × (length (now log) < 2 ^ 32) ⌝ }
     ensures { λ r. ⌜ Puts (now (out .entry)) at (callLines 1 (map callOf (now (log .entry)))) (now (out .exit)) r × (r ≤ at + 47 * length (now (log .entry))) ⌝ }
 {
@@ -189,7 +189,7 @@ pub fn put_calls(out: &mut [u8], at: usize, log: &[u64]) -> usize
 }
 
 // The line of the result.
-pub fn put_result(out: &mut [u8], at: usize, e: CallEnding) -> usize
+pub(crate) fn put_result(out: &mut [u8], at: usize, e: CallEnding) -> usize
     requires { ⌜ at ≤ 2 ^ 60 ⌝ }
     ensures { λ r. ⌜ Puts (now (out .entry)) at (resultLine e) (now (out .exit)) r × (r ≤ at + 15) ⌝ }
 {
@@ -200,7 +200,7 @@ pub fn put_result(out: &mut [u8], at: usize, e: CallEnding) -> usize
 }
 
 // The line `D` of bytes.
-pub fn put_bytes_line(out: &mut [u8], at: usize, bytes: &[u8]) -> usize
+pub(crate) fn put_bytes_line(out: &mut [u8], at: usize, bytes: &[u8]) -> usize
     requires { ⌜ at + 2 * length (now bytes) ≤ 2 ^ 60 ⌝ }
     ensures { λ r. ⌜ Puts (now (out .entry)) at (dataLine hexByte (now (bytes .entry))) (now (out .exit)) r × (r ≤ at + 3 + 2 * length (now (bytes .entry))) ⌝ }
 {
@@ -214,7 +214,7 @@ pub fn put_bytes_line(out: &mut [u8], at: usize, bytes: &[u8]) -> usize
 }
 
 // The line `D` of words.
-pub fn put_words_line(out: &mut [u8], at: usize, words: &[u32]) -> usize
+pub(crate) fn put_words_line(out: &mut [u8], at: usize, words: &[u32]) -> usize
     requires { ⌜ at + 8 * length (now words) ≤ 2 ^ 60 ⌝ }
     ensures { λ r. ⌜ Puts (now (out .entry)) at (dataLine hexWord (now (words .entry))) (now (out .exit)) r × (r ≤ at + 3 + 8 * length (now (words .entry))) ⌝ }
 {
