@@ -20,7 +20,8 @@ use Rattle.memap.specs.Words.{flush, place, pull, push, pushAll, rowAt}
 use Rattle.memap.specs.Ops.{perform}
 use Rattle.memap.specs.declared.Op.{Op}
 use Rattle.memap.specs.declared.Op.the-variants as O
-use Rattle.session_rules.specs.Session.{loss, lostIn}
+use Rattle.session_phase.specs.Phase.{loss}
+use Rattle.session_rules.specs.Session.{lostIn}
 use Rattle.agreement.specs.Demand3.{isTransfer, aborts, lossAmong}
 
 -- `due`: the next transport call is an ignored ABORT

@@ -25,7 +25,7 @@ use Rattle.calls_fpb.specs.declared.Free.{Free}
 use Rattle.calls_fpb.specs.declared.Free.the-variants as F
 use Rattle.calls_fpb.specs.declared.FpbCall.{FpbCall}
 use Rattle.calls_fpb.specs.declared.FpbCall.the-variants as B
-use Rattle.engine.specs.Calls.{jobOf}
+use Rattle.calls.specs.Calls.{jobOf}
 use Rattle.session_rules.specs.Admits.{engineCall}
 use Rattle.session_rules.specs.declared.SessionCall.{SessionCall}
 use Rattle.session_rules.specs.declared.SessionCall.the-variants as S

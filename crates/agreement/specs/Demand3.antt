@@ -22,7 +22,8 @@ use Rattle.target.specs.declared.Byte.{Byte}
 use Rattle.target.specs.declared.Byte.the-variants as B
 use Rattle.target_run.specs.Talk.{Talk, talk, silent}
 use Rattle.session_rules.specs.Admits.{isConnect, refusal}
-use Rattle.session_rules.specs.Session.{Standing, closed, Called, called, checked, sessionTree, succeeds, loss}
+use Rattle.session_phase.specs.Phase.{succeeds, loss}
+use Rattle.session_rules.specs.Session.{Standing, closed, Called, called, checked, sessionTree}
 use Rattle.session_rules.specs.declared.SessionCall.{SessionCall}
 use Rattle.session_rules.specs.declared.SessionCall.the-variants as S
 use Rattle.session_rules.specs.declared.Check.{Check}

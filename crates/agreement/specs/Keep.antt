@@ -12,9 +12,10 @@ use Rattle.target.specs.WellFormedLaws.{well-line}
 use Rattle.target.specs.declared.Target.{Target}
 use Rattle.target.specs.declared.Act.{Act}
 use Rattle.target_run.specs.Talk.{Talk, talk, actNow, actsThen}
-use Rattle.engine.specs.Calls.{jobOf}
+use Rattle.calls.specs.Calls.{jobOf}
 use Rattle.session_rules.specs.Admits.{engineCall, isConnect, refusal}
-use Rattle.session_rules.specs.Session.{Standing, rememberedFor, sessionTree, opensAfter, lostIn, settled}
+use Rattle.session_phase.specs.Phase.{rememberedFor, opensAfter}
+use Rattle.session_rules.specs.Session.{Standing, sessionTree, lostIn, settled}
 use Rattle.session_rules.specs.declared.SessionCall.{SessionCall}
 use Rattle.session_rules.specs.declared.Check.{Check}
 use Rattle.session_rules.specs.declared.Check.the-variants.{Pass, Refuse}
@@ -35,9 +36,9 @@ formed-talk (tell m c w) zero acts t mem h = h
 formed-talk (tell m c w) (suc n) acts t mem h = formed-talk w n (actsThen acts) _ _ (well-line t mem c (actNow acts) h)
 
 -- a session that is open after a call has lost nothing
-open-whole : (c : SessionCall) (lost : Bool) (e : Ending) → opensAfter c lost e ≡ true → lost ≡ false
-open-whole c true e h = absurd (false≢true h)
-open-whole c false e h = refl
+open-whole : (connect lost : Bool) (e : Ending) → opensAfter connect lost e ≡ true → lost ≡ false
+open-whole connect true e h = absurd (false≢true h)
+open-whole connect false e h = refl
 
 -- how the call finds the memory
 starts : (x : Moment) (i : Item) → Kept x → refusal (x .standing .isOpen) (i .call) (length (i .buf)) ≡ Pass → (row : List ℕ)
@@ -62,7 +63,7 @@ leaves-kept : (s : Standing) (c : SessionCall) (w : Wire) (n : ℕ) (acts : List
 leaves-kept s c w n acts t mem f h =
     let p = play w (talk w n acts t mem .answers) in
     let a = holds-so (p .ending) _ _ _ _ (lives Ends Agreed w n acts t mem false h) in
-    record { formed = formed-talk w n acts t mem f; port = a .port; agree = λ o. a .agree (open-whole c _ (p .ending) o) }
+    record { formed = formed-talk w n acts t mem f; port = a .port; agree = λ o. a .agree (open-whole (isConnect c) _ (p .ending) o) }
 
 pub keeps : (x : Moment) (i : Item) (acts : List Act) → Kept x → Kept (made x i acts .after)
 keeps x i acts k = go (refusal (x .standing .isOpen) (i .call) (length (i .buf))) refl

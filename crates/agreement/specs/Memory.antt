@@ -20,7 +20,8 @@ use Rattle.target.specs.declared.Target.{Target}
 use Rattle.target.specs.declared.Byte.the-variants as B
 use Rattle.target.specs.declared.Act.{Act}
 use Rattle.session_rules.specs.Admits.{unless, admitted, aligned, ranged, isConnect, refusal}
-use Rattle.session_rules.specs.Session.{sessionTree, succeeds, lostIn}
+use Rattle.session_phase.specs.Phase.{succeeds}
+use Rattle.session_rules.specs.Session.{sessionTree, lostIn}
 use Rattle.session_rules.specs.declared.SessionCall.{SessionCall}
 use Rattle.session_rules.specs.declared.SessionCall.the-variants as S
 use Rattle.session_rules.specs.declared.Check.{Check}

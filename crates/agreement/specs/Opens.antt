@@ -14,10 +14,11 @@ use Rattle.jobs.specs.Change.{changed}
 use Rattle.memap.specs.declared.Op.{Op}
 use Rattle.memap.specs.declared.Op.the-variants as O
 use Rattle.jobs.specs.Job.{Job, ends, op, keep, exec, either}
-use Rattle.engine.specs.Calls.{jobOf}
+use Rattle.calls.specs.Calls.{jobOf}
 use Rattle.target.specs.Choice.{pick}
 use Rattle.session_rules.specs.Admits.{engineCall, isConnect, refusal}
-use Rattle.session_rules.specs.Session.{Standing, called, checked, sessionTree, succeeds, finishes}
+use Rattle.session_phase.specs.Phase.{succeeds, opensAfter}
+use Rattle.session_rules.specs.Session.{Standing, called, checked, sessionTree}
 use Rattle.session_rules.specs.declared.SessionCall.{SessionCall}
 use Rattle.session_rules.specs.declared.SessionCall.the-variants as S
 use Rattle.session_rules.specs.declared.Check.{Check}
@@ -61,7 +62,7 @@ shaped s c buf = job-shaped (jobOf (engineCall c) 0 (length buf)) any (call-soun
 
 -- the session's rule and the list's rule are the same rule
 same-rule : (lost connect was : Bool) (e : Ending) → (connect ≡ false → was ≡ true)
-  → not lost && (succeeds e || not connect && finishes e)
+  → opensAfter connect lost e
   ≡ not (isSpent e || (connect && not (succeeds e)) || lost) && ((connect && succeeds e) || was)
 same-rule true true was (ended (Value v)) h = refl
 same-rule true true was (ended (Failed e)) h = refl

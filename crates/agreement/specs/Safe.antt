@@ -10,7 +10,8 @@ use Rattle.target.specs.Line.{line}
 use Rattle.target.specs.declared.Target.{Target}
 use Rattle.target.specs.declared.Act.{Act}
 use Rattle.target_run.specs.Talk.{Talk, talk, actNow, actsThen}
-use Rattle.session_rules.specs.Session.{loss, lostIn}
+use Rattle.session_phase.specs.Phase.{loss}
+use Rattle.session_rules.specs.Session.{lostIn}
 
 -- of the memory, the target, its memory, and whether a transport call was lost
 abbrev pub Stand : Type 1

@@ -25,7 +25,7 @@ use Rattle.target.specs.declared.Loss.{Loss}
 use Rattle.target.specs.declared.Loss.the-variants as L
 use Rattle.target.specs.declared.Act.{Act}
 use Rattle.target.specs.declared.Act.the-variants.{Deliver, Wait, Lose}
-use Rattle.session_rules.specs.Session.{loss}
+use Rattle.session_phase.specs.Phase.{loss}
 use Rattle.agreement.specs.Demand3.{isTransfer}
 use Rattle.agreement.specs.Safe.{Stand, Post, Safe, or-none}
 

@@ -6,9 +6,9 @@ use lib.ListN.{length, replicate}
 use Rattle.transport.specs.Wire.{play, Played}
 use Rattle.calls_core.specs.declared.Function.{Function}
 use Rattle.jobs.specs.Change.{fresh}
-use Rattle.engine.specs.Calls.{callTree, rowFor}
-use Rattle.engine.specs.Run.{within, logged}
-use Rattle.engine.specs.declared.EngineCall.{EngineCall}
+use Rattle.calls.specs.Calls.{callTree, rowFor}
+use Rattle.engine_run.specs.Run.{within, logged}
+use Rattle.calls.specs.declared.EngineCall.{EngineCall}
 
 abbrev pub playedNew : EngineCall → ℕ → List ℕ → List ℕ → Played
 playedNew c budget answers buf = play (callTree c fresh (rowFor c (replicate 1 0)) (replicate 1 0) buf) (within budget answers)

@@ -5,20 +5,20 @@ ghost use Rattle.calls_connect.specs.declared.ConnectCall.the-variants.{Connect
 ghost use Rattle.calls_core.specs.declared.CoreCall.the-variants.{CallFunction};
 ghost use Rattle.calls_fpb.specs.declared.FpbCall.the-variants.{HwBreakpointSet};
 ghost use Rattle.calls_memory.specs.declared.MemoryCall.the-variants.{ReadMem, WriteMem, ReadWord};
-ghost use Rattle.engine.specs.declared.EngineCall.the-variants.{Connect, Memory, Core, Fpb};
+ghost use Rattle.calls.specs.declared.EngineCall.the-variants.{Connect, Memory, Core, Fpb};
 ghost use Rattle.bench.specs.Played.{Counted, called};
 use calls_connect::ConnectCall;
 use calls_core::{CoreCall, Function};
 use calls_fpb::FpbCall;
 use calls_memory::MemoryCall;
-use engine::EngineCall;
+use calls::EngineCall;
 use transport::Remembered;
 
 fn count(c: EngineCall, budget: u32, answers: &[u64], buf: &mut [u8], log: &mut [u64]) -> u32
     ensures { λ r. ⌜ Counted c budget (now (answers .entry)) (now (buf .entry)) (now (log .entry)) r (now (buf .exit)) (now (log .exit)) ⌝ }
 {
     let mut words = [0u32; 1];
-    let r = engine::run(Remembered { select: 0xFFFFFFFF, csw: false, apsel: 0 }, c, budget, answers, &mut words, buf, log);
+    let r = engine_run::run(Remembered { select: 0xFFFFFFFF, csw: false, apsel: 0 }, c, budget, answers, &mut words, buf, log);
     r.count
 }
 

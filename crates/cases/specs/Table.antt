@@ -25,8 +25,8 @@ use Rattle.calls_memory.specs.Memory.{runWords, memFrom, memoryJob}
 use Rattle.calls_memory.specs.declared.MemoryCall.the-variants as M
 use Rattle.calls_fpb.specs.Breakpoint.{fpbCompValue}
 use Rattle.calls_fpb.specs.declared.CompValue.the-variants as P
-use Rattle.engine.specs.Calls.{callTree}
-use Rattle.engine.specs.declared.EngineCall.the-variants as N
+use Rattle.calls.specs.Calls.{callTree}
+use Rattle.calls.specs.declared.EngineCall.the-variants as N
 
 -- SELECT 0 and CSW remembered
 abbrev pub known : Remembered

@@ -13,9 +13,9 @@ use Rattle.transport.specs.declared.Outcome.the-variants.{Value, Failed}
 use Rattle.transport.specs.declared.ArmError.the-variants as E
 use Rattle.memap.specs.Flight.{memoryOf}
 use Rattle.calls_connect.specs.declared.ConnectCall.the-variants as K
-use Rattle.engine.specs.Calls.{callTree, rowFor}
-use Rattle.engine.specs.declared.EngineCall.{EngineCall}
-use Rattle.engine.specs.declared.EngineCall.the-variants as N
+use Rattle.calls.specs.Calls.{callTree, rowFor}
+use Rattle.calls.specs.declared.EngineCall.{EngineCall}
+use Rattle.calls.specs.declared.EngineCall.the-variants as N
 use Rattle.target.specs.DebugPort.{powered}
 use Rattle.target.specs.declared.Target.{Target}
 use Rattle.target_run.specs.Talk.{talk}

@@ -8,7 +8,7 @@ use Rattle.transport.specs.Wire.{Wire, Memory, done, ask, tell}
 use Rattle.memap.specs.Flight.{memoryOf}
 use Rattle.numbers.specs.Results.{resultOf}
 use Rattle.numbers.specs.Numbers.{numbersOf}
-use Rattle.engine.specs.Calls.{pick}
+use Rattle.calls.specs.Calls.{pick}
 use Rattle.engine.specs.State.{stateTree}
 use Rattle.engine.specs.declared.NextStep.{NextStep}
 use Rattle.engine.specs.declared.NextStep.the-variants as N

@@ -10,7 +10,8 @@ ghost use lib.ListN.{length, set, getD, drop};
 ghost use lib.Seq.{sets};
 ghost use Rattle.transport.specs.Bytes.{leBytes};
 ghost use Rattle.jobs.specs.Bytes.{leWord, storeWords, storePart, loadWords, patchWord, fromPlace};
-ghost use Rattle.jobs.specs.Change.{rememberedAfter, wordsAfter, bufAfter, XPSR-THUMB};
+ghost use Rattle.memap.specs.Flight.{memoryOf};
+ghost use Rattle.jobs.specs.Change.{rememberedAfter, wordsAfter, bufAfter, changed, XPSR-THUMB};
 use memap::Op;
 use transport::{Outcome, Remembered};
 
@@ -40,7 +41,7 @@ pub enum Next {
 }
 
 // What is remembered after a change.
-pub fn remembered_after(c: Change, r: Remembered) -> Remembered
+fn remembered_after(c: Change, r: Remembered) -> Remembered
     ensures { λ x. ⌜ x ≡ rememberedAfter c r ⌝ }
 {
     match c {
@@ -277,7 +278,7 @@ fn put_registers(row: &mut [u32], r0: u32, r1: u32, r2: u32, r3: u32, sp: u32, l
 }
 
 // The row and the buffer after a change.
-pub fn apply(c: Change, row: &mut [u32], buf: &mut [u8])
+fn apply(c: Change, row: &mut [u32], buf: &mut [u8])
     ensures { λ _. ⌜ (now (row .exit) ≡ wordsAfter c (now (row .entry)) (now (buf .entry))) × (now (buf .exit) ≡ bufAfter c (now (row .entry)) (now (buf .entry))) ⌝ }
 {
     match c {
@@ -293,4 +294,13 @@ pub fn apply(c: Change, row: &mut [u32], buf: &mut [u8])
         Change::Put { at, word } => put(row, at as usize, word),
         Change::Registers { r0, r1, r2, r3, sp, lr, pc } => put_registers(row, r0, r1, r2, r3, sp, lr, pc),
     }
+}
+
+// A change of what is kept.
+pub fn make_change(c: Change, r: Remembered, ws: &mut [u32], buf: &mut [u8]) -> Remembered
+    ensures { λ x. ⌜ changed c (memoryOf r (now (ws .entry)) (now (buf .entry))) ≡ memoryOf x (now (ws .exit)) (now (buf .exit)) ⌝ }
+{
+    let r2 = remembered_after(c, r);
+    apply(c, ws, buf);
+    r2
 }

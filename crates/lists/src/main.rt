@@ -6,7 +6,7 @@ use calls_core::{CoreCall, Function};
 use calls_fpb::FpbCall;
 use calls_memory::MemoryCall;
 use calls_nrf::NrfCall;
-use engine::EngineCall;
+use calls::EngineCall;
 use numbers::CallEnding;
 use transport::{Call, Remembered};
 
@@ -43,29 +43,29 @@ fn next_word() -> u32 {
     0x10000 * a + b
 }
 
-// Calls 1 to 8.
-fn port_call(number: u8, a: &[u32; 8]) -> EngineCall {
+// Calls 1 to 5.
+fn connect_call(number: u8, a: &[u32; 8]) -> ConnectCall {
     match number {
-        1 => EngineCall::Connect(ConnectCall::ConnectMultidrop(a[0])),
-        2 => EngineCall::Connect(ConnectCall::ProbeSwd),
-        3 => EngineCall::Connect(ConnectCall::ConnectSwd),
-        4 => EngineCall::Connect(ConnectCall::ResetPulse(a[0])),
-        5 => EngineCall::Connect(ConnectCall::Reselect(a[0])),
-        6 => EngineCall::Memory(MemoryCall::SetApsel((a[0] % 256) as u8)),
-        7 => EngineCall::Memory(MemoryCall::ApRegRead((a[0] % 256) as u8)),
-        _ => EngineCall::Memory(MemoryCall::ApRegWrite((a[0] % 256) as u8, a[1])),
+        1 => ConnectCall::ConnectMultidrop(a[0]),
+        2 => ConnectCall::ProbeSwd,
+        3 => ConnectCall::ConnectSwd,
+        4 => ConnectCall::ResetPulse(a[0]),
+        _ => ConnectCall::Reselect(a[0]),
     }
 }
 
-// Calls 9 to 14.
-fn memory_call(number: u8, a: &[u32; 8]) -> EngineCall {
+// Calls 6 to 14.
+fn memory_call(number: u8, a: &[u32; 8]) -> MemoryCall {
     match number {
-        9 => EngineCall::Memory(MemoryCall::ReadWord(a[0])),
-        10 => EngineCall::Memory(MemoryCall::WriteWord(a[0], a[1])),
-        11 => EngineCall::Memory(MemoryCall::ReadWords(a[0])),
-        12 => EngineCall::Memory(MemoryCall::WriteWords(a[0])),
-        13 => EngineCall::Memory(MemoryCall::ReadMem(a[0])),
-        _ => EngineCall::Memory(MemoryCall::WriteMem(a[0])),
+        6 => MemoryCall::SetApsel((a[0] % 256) as u8),
+        7 => MemoryCall::ApRegRead((a[0] % 256) as u8),
+        8 => MemoryCall::ApRegWrite((a[0] % 256) as u8, a[1]),
+        9 => MemoryCall::ReadWord(a[0]),
+        10 => MemoryCall::WriteWord(a[0], a[1]),
+        11 => MemoryCall::ReadWords(a[0]),
+        12 => MemoryCall::WriteWords(a[0]),
+        13 => MemoryCall::ReadMem(a[0]),
+        _ => MemoryCall::WriteMem(a[0]),
     }
 }
 
@@ -74,49 +74,58 @@ fn function(a: &[u32; 8]) -> Function {
 }
 
 // Calls 15 to 25.
-fn core_call(number: u8, a: &[u32; 8]) -> EngineCall {
+fn core_call(number: u8, a: &[u32; 8]) -> CoreCall {
     match number {
-        15 => EngineCall::Core(CoreCall::DebugEnable),
-        16 => EngineCall::Core(CoreCall::Halt),
-        17 => EngineCall::Core(CoreCall::Resume),
-        18 => EngineCall::Core(CoreCall::Step),
-        19 => EngineCall::Core(CoreCall::IsHalted),
-        20 => EngineCall::Core(CoreCall::ReadCoreReg((a[0] % 256) as u8)),
-        21 => EngineCall::Core(CoreCall::WriteCoreReg((a[0] % 256) as u8, a[1])),
-        22 => EngineCall::Core(CoreCall::RomFuncLookup((a[0] % 256) as u8, (a[1] % 256) as u8)),
-        23 => EngineCall::Core(CoreCall::StartFunction(function(a))),
-        24 => EngineCall::Core(CoreCall::FinishFunction(a[0])),
-        _ => EngineCall::Core(CoreCall::CallFunction(function(a), a[7])),
+        15 => CoreCall::DebugEnable,
+        16 => CoreCall::Halt,
+        17 => CoreCall::Resume,
+        18 => CoreCall::Step,
+        19 => CoreCall::IsHalted,
+        20 => CoreCall::ReadCoreReg((a[0] % 256) as u8),
+        21 => CoreCall::WriteCoreReg((a[0] % 256) as u8, a[1]),
+        22 => CoreCall::RomFuncLookup((a[0] % 256) as u8, (a[1] % 256) as u8),
+        23 => CoreCall::StartFunction(function(a)),
+        24 => CoreCall::FinishFunction(a[0]),
+        _ => CoreCall::CallFunction(function(a), a[7]),
     }
 }
 
-// Calls 26 to 35.
-fn chip_call(number: u8, a: &[u32; 8]) -> EngineCall {
+// Calls 26 to 28.
+fn fpb_call(number: u8, a: &[u32; 8]) -> FpbCall {
     match number {
-        26 => EngineCall::Fpb(FpbCall::HwBreakpointSet(a[0])),
-        27 => EngineCall::Fpb(FpbCall::HwBreakpointClear(a[0])),
-        28 => EngineCall::Fpb(FpbCall::HwBreakpointAt(a[0])),
-        29 => EngineCall::Nrf(NrfCall::Nrf52ApprotectStatus),
-        30 => EngineCall::Nrf(NrfCall::Nrf52EraseAll(a[0])),
-        31 => EngineCall::Nrf(NrfCall::Nrf52ErasePage { addr: a[0], polls: a[1] }),
-        32 => EngineCall::Nrf(NrfCall::Nrf52Program { addr: a[0], polls: a[1] }),
-        33 => EngineCall::Nrf(NrfCall::Nrf54ApprotectStatus),
-        34 => EngineCall::Nrf(NrfCall::Nrf54EraseAll(a[0])),
-        _ => EngineCall::Nrf(NrfCall::Nrf54Program { addr: a[0], polls: a[1] }),
+        26 => FpbCall::HwBreakpointSet(a[0]),
+        27 => FpbCall::HwBreakpointClear(a[0]),
+        _ => FpbCall::HwBreakpointAt(a[0]),
+    }
+}
+
+// Calls 29 to 35.
+fn nrf_call(number: u8, a: &[u32; 8]) -> NrfCall {
+    match number {
+        29 => NrfCall::Nrf52ApprotectStatus,
+        30 => NrfCall::Nrf52EraseAll(a[0]),
+        31 => NrfCall::Nrf52ErasePage { addr: a[0], polls: a[1] },
+        32 => NrfCall::Nrf52Program { addr: a[0], polls: a[1] },
+        33 => NrfCall::Nrf54ApprotectStatus,
+        34 => NrfCall::Nrf54EraseAll(a[0]),
+        _ => NrfCall::Nrf54Program { addr: a[0], polls: a[1] },
     }
 }
 
 fn call_of(number: u8, a: &[u32; 8]) -> EngineCall {
-    if number <= 8 {
-        return port_call(number, a);
+    if number <= 5 {
+        return EngineCall::Connect(connect_call(number, a));
     }
     if number <= 14 {
-        return memory_call(number, a);
+        return EngineCall::Memory(memory_call(number, a));
     }
     if number <= 25 {
-        return core_call(number, a);
+        return EngineCall::Core(core_call(number, a));
     }
-    chip_call(number, a)
+    if number <= 28 {
+        return EngineCall::Fpb(fpb_call(number, a));
+    }
+    EngineCall::Nrf(nrf_call(number, a))
 }
 
 fn write(text: &[u8]) {
@@ -245,7 +254,7 @@ fn perform(r: Remembered, number: u8, c: EngineCall, answers: &[u64], words: &mu
     write(b"call ");
     io::print_decimal(1, number as u64);
     write(b"\n");
-    let x = engine::run(r, c, 0xFFFFFFFF, answers, words, bytes, &mut log);
+    let x = engine_run::run(r, c, 0xFFFFFFFF, answers, words, bytes, &mut log);
     show_calls(&log, x.count as usize);
     let e = x.ending;
     show_result(e);

@@ -5,10 +5,10 @@ use mathlib.Core.List.{List, _∷_}
 use native.Mathlib.Nat.{not-suc-le-zero}
 use native.Mathlib.Omega.{arith}
 use lib.ListN.{length, take, drop, replicate, length-replicate}
-use Rattle.script.specs.BigEndian.{word, row}
-use Rattle.script.specs.Request.{wordsOf, bytesOf}
-use Rattle.script.specs.declared.Buffer.{Buffer}
-use Rattle.script.specs.declared.Buffer.the-variants as B
+use Rattle.request.specs.BigEndian.{word, row}
+use Rattle.request.specs.Request.{wordsOf, bytesOf}
+use Rattle.request.specs.declared.Buffer.{Buffer}
+use Rattle.request.specs.declared.Buffer.the-variants as B
 
 -- how many words and bytes, by the number of bytes behind the call's number
 abbrev pub wordCount : Buffer → ℕ → ℕ

@@ -1,9 +1,3 @@
-pub mod Text
-pub mod TextLaws
-pub mod Listing
-pub mod Puts
-pub mod BigEndian
-pub mod Request
 pub mod Script
 pub mod Output
 pub mod Loads

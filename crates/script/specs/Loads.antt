@@ -7,8 +7,8 @@ use native.Mathlib.Omega.{arith}
 use native.Mathlib.Numerals.{add-one}
 use lib.ListN.{length, set, getD, take, drop, replicate, drop-of-length-le}
 use lib.Seq.{sets, sets-eq, drop-cons}
-use Rattle.script.specs.Puts.{Puts, Left, left-all, left-puts, left-none}
-use Rattle.script.specs.BigEndian.{row}
+use Rattle.listing.specs.Puts.{Puts, Left, left-all, left-puts, left-none}
+use Rattle.request.specs.BigEndian.{row}
 use Rattle.script.specs.Script.{goodAnswer, goodAnswers}
 
 -- one number
@@ -45,7 +45,7 @@ module _ (f : ℕ → ℕ) (size : ℕ) where
       subst (λ (m : ℕ). Left l 0 (row f size n i) l 0 (row f size m i)) e left-all
 
   pub left-row : {l₀ : List ℕ} {i₀ : ℕ} {t₀ l : List ℕ} (n j i : ℕ) → j < n → Left l₀ i₀ t₀ l j (row f size (n - j) i)
-    → Left l₀ i₀ t₀ (set l j (f i)) (j + 1) (row f size (n - (j + 1)) (i + size))
+      → Left l₀ i₀ t₀ (set l j (f i)) (j + 1) (row f size (n - (j + 1)) (i + size))
   left-row {l₀} {i₀} {t₀} {l} n j i lt h =
       let e : n - j ≡ suc (n - (j + 1)) = omega arith in
       left-one (f i) (row f size (n - (j + 1)) (i + size))
@@ -59,7 +59,7 @@ module _ (f : ℕ → ℕ) (size : ℕ) where
 
 -- the rest of a list, from one place on
 pub left-rest : {l₀ : List ℕ} {i₀ : ℕ} {t₀ l : List ℕ} (a : List ℕ) (j : ℕ) → 4 + j < length a → Left l₀ i₀ t₀ l j (drop (4 + j) a)
-  → Left l₀ i₀ t₀ (set l j (getD a (4 + j) 0)) (j + 1) (drop (4 + (j + 1)) a)
+    → Left l₀ i₀ t₀ (set l j (getD a (4 + j) 0)) (j + 1) (drop (4 + (j + 1)) a)
 left-rest {l₀} {i₀} {t₀} {l} a j lt h =
     let e : suc (4 + j) ≡ 4 + (j + 1) = omega arith in
     left-one (getD a (4 + j) 0) (drop (4 + (j + 1)) a)

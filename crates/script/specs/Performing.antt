@@ -10,18 +10,19 @@ use Rattle.transport.specs.declared.Answer.{Answer}
 use Rattle.transport.specs.declared.Call.{Call}
 use Rattle.numbers.specs.Log.{codeOf, callOf, answerOf}
 use Rattle.jobs.specs.Change.{fresh}
-use Rattle.engine.specs.declared.EngineCall.{EngineCall}
-use Rattle.engine.specs.declared.Ran.{Ran}
-use Rattle.engine.specs.Calls.{callTree, rowFor}
-use Rattle.engine.specs.Run.{within, RanAs}
-use Rattle.script.specs.Listing.{callLines, resultLine}
-use Rattle.script.specs.declared.Buffer.{Buffer}
-use Rattle.script.specs.declared.Request.{Request}
-use Rattle.script.specs.declared.Request.the-variants.{Asked}
-use Rattle.script.specs.BigEndian.{byte, half, row}
-use Rattle.script.specs.Request.{requestOf, wordsOf, bytesOf}
+use Rattle.calls.specs.declared.EngineCall.{EngineCall}
+use Rattle.engine_run.specs.declared.Ran.{Ran}
+use Rattle.calls.specs.Calls.{callTree, rowFor}
+use Rattle.engine_run.specs.Run.{within, RanAs}
+use Rattle.listing.specs.Listing.{listed}
+use Rattle.listing.specs.TextLaws.{listed-all}
+use Rattle.request.specs.declared.Buffer.{Buffer}
+use Rattle.request.specs.declared.Request.{Request}
+use Rattle.request.specs.declared.Request.the-variants.{Asked}
+use Rattle.request.specs.BigEndian.{byte, half, row}
+use Rattle.request.specs.Request.{requestOf, wordsOf, bytesOf}
 use Rattle.script.specs.Script.{callEnd, arguments, answerCount, answerAt}
-use Rattle.script.specs.Output.{afterText, performed, requestText}
+use Rattle.script.specs.Output.{shownOf, performed, requestText}
 
 -- a run makes at most as many calls as there are answers
 play-most : (w : Wire) (answers : List Answer) → length (play w answers .calls) ≤ length answers
@@ -45,8 +46,13 @@ module _ (c : EngineCall) (b : Buffer) (words₀ buf₀ answers : List ℕ) {r :
   pub count-most : r .count ≤ length answers
   unfolding run
   count-most =
-      omega (arith, h .count, play-most (callTree c fresh (rowFor c words₀) words₀ buf₀) (within (length answers) answers),
-        length-map (take (length answers) answers) answerOf, length-take (length answers) answers)
+      omega (
+        arith,
+        h .count,
+        play-most (callTree c fresh (rowFor c words₀) words₀ buf₀) (within (length answers) answers),
+        length-map (take (length answers) answers) answerOf,
+        length-take (length answers) answers,
+      )
 
   pub count-fits : r .count ≤ length l
   unfolding run
@@ -57,22 +63,23 @@ module _ (c : EngineCall) (b : Buffer) (words₀ buf₀ answers : List ℕ) {r :
   log-calls =
       let n : length (map codeOf (run .calls)) ≡ r .count = length-map (run .calls) codeOf ∙ sym (h .count) in
       let e : take (r .count) l ≡ map codeOf (run .calls) =
-        ap (λ (x : List ℕ). take (r .count) x) (h .log) ∙ subst (λ (k : ℕ). take k (sets l₀ 0 (map codeOf (run .calls))) ≡ map codeOf (run .calls)) n (front l₀ (map codeOf (run .calls)) (omega (arith, count-most))) in
+      ap (λ (x : List ℕ). take (r .count) x) (h .log) ∙ subst (λ (k : ℕ). take k (sets l₀ 0 (map codeOf (run .calls))) ≡ map codeOf (run .calls)) n (front l₀ (map codeOf (run .calls)) (omega (arith, count-most))) in
       ap (λ (x : List ℕ). map callOf x) e ∙ h .readable
 
-  pub performed-text : callLines 1 (map callOf (take (r .count) l)) ++ (resultLine (r .ending) ++ afterText (r .ending) b words buf) ≡ performed c b words₀ buf₀ answers
+  pub performed-text : length (take (r .count) l) + length words + length buf ≤ 0xFFFFFFFF
+      → listed (take (r .count) l) (r .ending) (shownOf (r .ending) b) words buf ≡ performed c b words₀ buf₀ answers
   unfolding performed run
-  performed-text = rw (log-calls, h .ending, h .lent, h .buf)
+  performed-text few = listed-all (take (r .count) l) (r .ending) (shownOf (r .ending) b) words buf few ∙ rw (log-calls, h .ending, h .lent, h .buf)
 
 -- what a request prints, from the end of its record and the answers as they were loaded
 pub request-text : (c : EngineCall) (b : Buffer) (xs : List ℕ) {end n : ℕ} {loaded : List ℕ} → end ≡ callEnd xs → n ≡ answerCount xs
-  → loaded ≡ row (answerAt xs) 7 n end
-  → performed c b (wordsOf b (take (end - 4) (drop 4 xs))) (bytesOf b (take (end - 4) (drop 4 xs))) loaded ≡ requestText (Asked c b) xs
+    → loaded ≡ row (answerAt xs) 7 n end
+    → performed c b (wordsOf b (take (end - 4) (drop 4 xs))) (bytesOf b (take (end - 4) (drop 4 xs))) loaded ≡ requestText (Asked c b) xs
 unfolding requestText
 request-text c b xs e k h = rw (h, k, e)
 
 -- the request of a script, from its numbers as they were read
 pub script-request : (xs : List ℕ) {len number : ℕ} {r : Request} → len ≡ half xs 1 → number ≡ byte xs 3
-  → r ≡ requestOf number (take (3 + len - 4) (drop 4 xs)) → r ≡ requestOf (byte xs 3) (arguments xs)
+    → r ≡ requestOf number (take (3 + len - 4) (drop 4 xs)) → r ≡ requestOf (byte xs 3) (arguments xs)
 script-request xs {len} e k h =
     h ∙ ap (λ (n : ℕ). requestOf n (take (3 + len - 4) (drop 4 xs))) k ∙ ap (λ (n : ℕ). requestOf (byte xs 3) (take (3 + n - 4) (drop 4 xs))) e

@@ -6,7 +6,7 @@ use mathlib.Core.List.{List}
 use borrow.Author.Tests.{leb-true}
 use lib.Dec.{eqb, leb}
 use lib.ListN.{length}
-use Rattle.script.specs.BigEndian.{byte, half}
+use Rattle.request.specs.BigEndian.{byte, half}
 use Rattle.script.specs.Script.{callEnd, answerCount, goodAnswers, wellFormed}
 
 pub record Sizes (xs : List ℕ) : Type 0 where

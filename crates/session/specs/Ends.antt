@@ -17,19 +17,20 @@ use Rattle.transport.specs.declared.Transfer.{Transfer}
 use Rattle.transport.specs.declared.Remembered.{Remembered}
 use Rattle.memap.specs.Flight.{memoryOf}
 use Rattle.numbers.specs.Results.{errorNumber}
-use Rattle.engine.specs.Calls.{frameOf}
+use Rattle.calls.specs.Calls.{frameOf}
 use Rattle.engine.specs.State.{stateTree}
 use Rattle.engine.specs.Step.{nextOf, memoryIn}
 use Rattle.engine.specs.declared.State.{State}
 use Rattle.engine.specs.declared.NextStep.{NextStep}
 use Rattle.engine.specs.declared.NextStep.the-variants as N
-use Rattle.session_rules.specs.Session.{loss, frameLeft}
-use Rattle.session_rules.specs.Ended.{phaseEnded, phase-value, phase-failed}
+use Rattle.session_phase.specs.Phase.{loss}
+use Rattle.session_rules.specs.Session.{frameLeft}
+use Rattle.session_phase.specs.Ended.{phaseEnded}
 use Rattle.session.specs.Step.{phaseIn, frameIn, lostBy, Answers}
-use Rattle.session_rules.specs.declared.Kind.{Kind}
-use Rattle.session_rules.specs.declared.Kind.the-variants as K
-use Rattle.session_rules.specs.declared.Phase.{Phase}
-use Rattle.session_rules.specs.declared.Phase.the-variants as P
+use Rattle.session_phase.specs.declared.Kind.{Kind}
+use Rattle.session_phase.specs.declared.Kind.the-variants as K
+use Rattle.session_phase.specs.declared.Phase.{Phase}
+use Rattle.session_phase.specs.declared.Phase.the-variants as P
 use Rattle.session.specs.declared.Session.{Session}
 use Rattle.session.specs.declared.Reply.{Reply}
 
@@ -62,8 +63,8 @@ failed-number E.NoSession = refl
 failed-number E.TableEnd = refl
 
 phase-next : (kind : Kind) (lost : Bool) (w : Wire) → phaseFor kind lost (nextOf w) ≡ phaseIn kind lost w
-phase-next kind lost (done m (Value v)) = phase-value kind lost v
-phase-next kind lost (done m (Failed e)) = ap (phaseEnded kind lost) (failed-number e) ∙ phase-failed kind lost e
+phase-next kind lost (done m (Value v)) = refl
+phase-next kind lost (done m (Failed e)) = ap (phaseEnded kind lost) (failed-number e)
 phase-next kind lost (ask m c f) = refl
 phase-next kind lost (tell m c w) = refl
 

@@ -17,13 +17,14 @@ use Rattle.engine.specs.Step.{nextOf, bytesOf, memoryIn, Waits}
 use Rattle.engine.specs.declared.NextStep.{NextStep}
 use Rattle.engine.specs.declared.NextStep.the-variants as N
 use Rattle.session_rules.specs.Admits.{refusal}
-use Rattle.session_rules.specs.Session.{Standing, sessionTree, loss, kindOf, frameLeft, isOpen, phaseAfter}
+use Rattle.session_phase.specs.Phase.{loss, isOpen, phaseAfter}
+use Rattle.session_rules.specs.Session.{Standing, sessionTree, kindOf, frameLeft}
 use Rattle.session_rules.specs.declared.SessionCall.{SessionCall}
 use Rattle.session_rules.specs.declared.Check.{Check}
 use Rattle.session_rules.specs.declared.Check.the-variants.{Pass, Refuse}
-use Rattle.session_rules.specs.declared.Kind.{Kind}
-use Rattle.session_rules.specs.declared.Phase.{Phase}
-use Rattle.session_rules.specs.declared.Phase.the-variants as P
+use Rattle.session_phase.specs.declared.Kind.{Kind}
+use Rattle.session_phase.specs.declared.Phase.{Phase}
+use Rattle.session_phase.specs.declared.Phase.the-variants as P
 use Rattle.session.specs.declared.Session.{Session}
 use Rattle.session.specs.declared.Reply.{Reply}
 

@@ -5,17 +5,19 @@ ghost use mathlib.Core.Path.{_≡_};
 ghost use Prim.Native.Nat.{ℕ};
 ghost use lib.ListN.{replicate};
 ghost use Rattle.transport.specs.Wire.{Wire, follow};
-ghost use Rattle.engine.specs.Calls.{frameOf, rowFor};
+ghost use Rattle.calls.specs.Calls.{frameOf, rowFor};
 ghost use Rattle.engine.specs.State.{stateTree};
 ghost use Rattle.engine.specs.Step.{Steps};
 ghost use Rattle.session_rules.specs.Session.{closed, kindOf, sessionTree};
-ghost use Rattle.session_rules.specs.declared.Phase.the-variants.{Closed};
+ghost use Rattle.session_phase.specs.declared.Phase.the-variants.{Closed};
 ghost use Rattle.session.specs.Step.{standing, lostBy, Answers, Refused, Started, Stepped};
 ghost use Rattle.session.specs.Ends.{frameEnded, phaseFor, frameAt, lossIn};
 use calls_connect::ConnectAt;
-use engine::{At, EngineCall, NextStep, State, StepAnswer};
+use calls::{At, EngineCall};
+use engine::{NextStep, State, StepAnswer};
 use memap::Op;
-use session_rules::{Check, Kind, Phase, SessionCall};
+use session_phase::{Kind, Phase};
+use session_rules::{Check, SessionCall};
 use transport::{Answer, ArmError, Mode, Outcome, Remembered};
 
 // `state` has what is remembered and the call in flight, `row` the words of its runs, `frame` what call 23 left and 24 takes.
@@ -41,8 +43,8 @@ pub struct SessionAnswer {
 fn row_of(c: EngineCall, frame: [u32; 8]) -> [u32; 64]
     ensures { λ r. ⌜ r ≡ rowFor c frame ⌝ }
 {
-    let f = engine::frame_for(c);
-    engine::row_for(f, &frame)
+    let f = calls::frame_for(c);
+    calls::row_for(f, &frame)
 }
 
 // The frame in a row's first eight words.
@@ -50,7 +52,7 @@ fn frame_of(row: [u32; 64]) -> [u32; 8]
     ensures { λ r. ⌜ r ≡ frameOf row ⌝ }
 {
     let mut frame = [0u32; 8];
-    engine::copy_frame(&row, &mut frame);
+    calls::copy_frame(&row, &mut frame);
     frame
 }
 
@@ -59,9 +61,9 @@ fn loss_in(mode: Mode, a: Answer) -> bool
     ensures { λ r. ⌜ r ≡ lossIn mode a ⌝ }
 {
     match mode {
-        Mode::Trying => session_rules::is_loss(a),
+        Mode::Trying => session_phase::is_loss(a),
         Mode::Aborting => false,
-        Mode::Raw => session_rules::is_loss(a),
+        Mode::Raw => session_phase::is_loss(a),
     }
 }
 
@@ -69,9 +71,7 @@ fn loss_in(mode: Mode, a: Answer) -> bool
 fn lost_by(s: State, a: Answer) -> bool
     ensures { λ r. ⌜ ((ws b : List ℕ) → r ≡ lostBy (stateTree s ws b) a) ⌝ }
 {
-    let started = s.started;
-    let launched = started.launched;
-    let t = launched.transfer;
+    let t = s.started.launched.transfer;
     let mode = t.mode;
     loss_in(mode, a)
 }
@@ -98,7 +98,7 @@ fn phase_at(kind: Kind, lost: bool, next: NextStep) -> Phase
 {
     match next {
         NextStep::Make(_) => Phase::Running { kind: kind, lost: lost },
-        NextStep::Finish(e) => session_rules::phase_ended(kind, lost, e.number == 0),
+        NextStep::Finish(e) => session_phase::phase_ended(kind, lost, e.number == 0),
     }
 }
 
@@ -139,13 +139,11 @@ fn refused(s: Session, e: ArmError) -> SessionAnswer
 fn begun(s: Session, c: SessionCall, buf: &mut [u8]) -> SessionAnswer
     ensures { λ r. ⌜ Answers (kindOf c) false (s .frame) (sessionTree (standing s) c (now (buf .entry))) (r .session) (r .reply) (now (buf .exit)) ⌝ }
 {
-    let state = s.state;
     let frame = s.frame;
     let e = session_rules::engine_call(c);
-    let r = session_rules::remembered_for(session_rules::is_connect(c), state.remembered);
+    let r = session_phase::remembered_for(session_rules::is_connect(c), s.state.remembered);
     let mut row = row_of(e, frame);
-    let mut none = [0u32; 0];
-    let x = engine::start(r, e, &mut row, &mut none, buf);
+    let x = engine::start_over(r, e, false, 0, &mut row, buf);
     let kind = session_rules::kind_of(c);
     settled(kind, false, frame, row, x)
 }
@@ -160,17 +158,6 @@ fn has_lost(lost: bool, s: State, a: Answer) -> bool
     lost_by(s, a)
 }
 
-// One step of the engine over a row of the session's own, whatever the state says of the caller's words.
-fn stepped(s: State, a: Answer, row: &mut [u32; 64], buf: &mut [u8]) -> StepAnswer
-    ensures { λ x. ⌜ Steps (follow (stateTree s (now (row .entry)) (now (buf .entry))) a) x (now (row .exit)) (now (buf .exit)) ⌝ }
-{
-    let r = s.remembered;
-    let at = s.at;
-    let started = s.started;
-    let mut none = [0u32; 0];
-    engine::step(State { remembered: r, at: at, started: started, own: false }, a, row, &mut none, buf)
-}
-
 // One step of the call under way.
 fn moved(s: Session, kind: Kind, lost: bool, a: Answer, buf: &mut [u8]) -> SessionAnswer
     ensures { λ r. ⌜ Answers kind (lost || lostBy (stateTree (s .state) (s .row) (now (buf .entry))) a) (s .frame) (follow (stateTree (s .state) (s .row) (now (buf .entry))) a) (r .session) (r .reply) (now (buf .exit)) ⌝ }
@@ -179,7 +166,7 @@ fn moved(s: Session, kind: Kind, lost: bool, a: Answer, buf: &mut [u8]) -> Sessi
     let frame = s.frame;
     let mut row = s.row;
     let by_now = has_lost(lost, state, a);
-    let x = stepped(state, a, &mut row, buf);
+    let x = engine::step_over(state, a, &mut row, buf);
     settled(kind, by_now, frame, row, x)
 }
 
@@ -198,7 +185,7 @@ pub fn open(s: Session) -> bool
     ensures { λ r. ⌜ r ≡ standing s .isOpen ⌝ }
 {
     let phase = s.phase;
-    session_rules::is_open(phase)
+    session_phase::is_open(phase)
 }
 
 // The start of a call: its first transport call, or its ending where it makes none.
@@ -206,7 +193,7 @@ pub fn session_start(s: Session, c: SessionCall, buf: &mut [u8]) -> SessionAnswe
     ensures { λ r. ⌜ Started s c (now (buf .entry)) (r .session) (r .reply) (now (buf .exit)) ⌝ }
 {
     let phase = s.phase;
-    match session_rules::check_call(session_rules::is_open(phase), c, buf.len()) {
+    match session_rules::check_call(session_phase::is_open(phase), c, buf.len()) {
         Check::Refuse(e) => refused(s, e),
         Check::Pass => begun(s, c, buf),
     }
@@ -222,31 +209,4 @@ pub fn session_step(s: Session, a: Answer, buf: &mut [u8]) -> SessionAnswer
         Phase::Open => refused(s, ArmError::NoSession),
         Phase::Running { kind, lost } => moved(s, kind, lost, a, buf),
     }
-}
-
-// Start and step for a caller who keeps the session: it is taken out whole, stepped by value, and stored back.
-pub fn start(s: &mut Session, c: SessionCall, buf: &mut [u8]) -> Reply
-    ensures { λ r. ⌜ Started (now (s .entry)) c (now (buf .entry)) (now (s .exit)) r (now (buf .exit)) ⌝ }
-{
-    let now = *s;
-    let r = session_start(now, c, buf);
-    *s = r.session;
-    r.reply
-}
-
-pub fn step(s: &mut Session, a: Answer, buf: &mut [u8]) -> Reply
-    ensures { λ r. ⌜ Stepped (now (s .entry)) a (now (buf .entry)) (now (s .exit)) r (now (buf .exit)) ⌝ }
-{
-    let now = *s;
-    let r = session_step(now, a, buf);
-    *s = r.session;
-    r.reply
-}
-
-// Whether the session that a caller keeps is open.
-pub fn is_open_now(s: &mut Session) -> bool
-    ensures { λ r. ⌜ (r ≡ standing (now (s .entry)) .isOpen) × (now (s .exit) ≡ now (s .entry)) ⌝ }
-{
-    let now = *s;
-    open(now)
 }

@@ -7,8 +7,8 @@ use Rattle.transport.specs.declared.ArmError.{ArmError}
 use Rattle.transport.specs.declared.ArmError.the-variants as E
 use Rattle.calls_connect.specs.declared.ConnectCall.the-variants as N
 use Rattle.calls_memory.specs.declared.MemoryCall.the-variants as M
-use Rattle.engine.specs.declared.EngineCall.{EngineCall}
-use Rattle.engine.specs.declared.EngineCall.the-variants as C
+use Rattle.calls.specs.declared.EngineCall.{EngineCall}
+use Rattle.calls.specs.declared.EngineCall.the-variants as C
 use Rattle.session_rules.specs.declared.SessionCall.{SessionCall}
 use Rattle.session_rules.specs.declared.SessionCall.the-variants as S
 use Rattle.session_rules.specs.declared.Check.{Check}

@@ -1,17 +1,18 @@
-// The rules of a session that need no engine's step: which calls it admits, what it knows of each, and how a call's end leaves it.
+// The calls of a session: which of them it admits, and what it knows of each.
 ghost use mathlib.Core.Bool.{not};
 ghost use mathlib.Core.Path.{_≡_};
 ghost use Prim.Native.Nat.{_+_};
 ghost use lib.Dec.{leb};
 ghost use Rattle.session_rules.specs.Admits.{engineCall, isConnect, aligned, ranged, admitted, refusal};
-ghost use Rattle.session_rules.specs.Session.{isOpen, loss, rememberedFor, coreKind, kindOf};
-ghost use Rattle.session_rules.specs.Ended.{phaseEnded};
+ghost use Rattle.calls.specs.Calls.{coreFrame};
+ghost use Rattle.session_rules.specs.Session.{kindBy, kindOf};
 use calls_connect::ConnectCall;
 use calls_core::CoreCall;
 use calls_fpb::FpbCall;
 use calls_memory::MemoryCall;
-use engine::EngineCall;
-use transport::{Answer, ArmError, Remembered};
+use calls::{EngineCall, Frame};
+use session_phase::Kind;
+use transport::ArmError;
 
 // Calls 3, 9, 10, 13, 14, 15 to 25 and 26 to 28.
 pub enum SessionCall {
@@ -27,32 +28,6 @@ pub enum SessionCall {
 pub enum Check {
     Pass,
     Refuse(ArmError),
-}
-
-// What the running call's end needs to know of it: a connect decides alone whether the session is open; call 23 leaves a frame.
-pub enum Kind {
-    Connect,
-    Frame,
-    Plain,
-}
-
-// While a call runs the session counts as closed, so that a call that is never brought to its end, Spent, leaves it closed.
-// `lost`: an answer was an error other than WAIT and FAULT.
-pub enum Phase {
-    Closed,
-    Open,
-    Running { kind: Kind, lost: bool },
-}
-
-// Whether a session may be asked for a call other than connect.
-pub fn is_open(p: Phase) -> bool
-    ensures { λ r. ⌜ r ≡ isOpen p ⌝ }
-{
-    match p {
-        Phase::Closed => false,
-        Phase::Open => true,
-        Phase::Running { .. } => false,
-    }
 }
 
 // The engine's call that a session's call is.
@@ -159,20 +134,12 @@ pub fn check_call(now_open: bool, c: SessionCall, bytes: usize) -> Check
 
 // Call 23 alone leaves a frame.
 fn core_kind(c: CoreCall) -> Kind
-    ensures { λ r. ⌜ r ≡ coreKind c ⌝ }
+    ensures { λ r. ⌜ r ≡ kindBy (coreFrame c) ⌝ }
 {
-    match c {
-        CoreCall::DebugEnable => Kind::Plain,
-        CoreCall::Halt => Kind::Plain,
-        CoreCall::Resume => Kind::Plain,
-        CoreCall::Step => Kind::Plain,
-        CoreCall::IsHalted => Kind::Plain,
-        CoreCall::ReadCoreReg(_) => Kind::Plain,
-        CoreCall::WriteCoreReg(_, _) => Kind::Plain,
-        CoreCall::RomFuncLookup(_, _) => Kind::Plain,
-        CoreCall::StartFunction(_) => Kind::Frame,
-        CoreCall::FinishFunction(_) => Kind::Plain,
-        CoreCall::CallFunction(_, _) => Kind::Plain,
+    match calls::frame_for(EngineCall::Core(c)) {
+        Frame::Nowhere => Kind::Plain,
+        Frame::Found => Kind::Plain,
+        Frame::Left => Kind::Frame,
     }
 }
 
@@ -188,49 +155,5 @@ pub fn kind_of(c: SessionCall) -> Kind
         SessionCall::WriteMem(_) => Kind::Plain,
         SessionCall::Core(q) => core_kind(q),
         SessionCall::Fpb(_) => Kind::Plain,
-    }
-}
-
-// Each connect starts with SELECT and CSW unknown.
-pub fn remembered_for(connect: bool, r: Remembered) -> Remembered
-    ensures { λ x. ⌜ x ≡ rememberedFor connect r ⌝ }
-{
-    if connect {
-        return Remembered { select: 0xFFFFFFFF, csw: false, apsel: r.apsel };
-    }
-    r
-}
-
-// Whether an answer leaves open what became of the transport call: an error other than WAIT and FAULT.
-pub fn is_loss(a: Answer) -> bool
-    ensures { λ r. ⌜ r ≡ loss a ⌝ }
-{
-    match a {
-        Answer::Good(_) => false,
-        Answer::SwdError(ack) => {
-            if ack == 2 {
-                return false;
-            }
-            ack != 4
-        }
-        Answer::NotSupported => true,
-        Answer::Other => true,
-    }
-}
-
-// A session is open after a call without a loss; after a connect only if it succeeded.
-pub fn phase_ended(kind: Kind, lost: bool, ok: bool) -> Phase
-    ensures { λ r. ⌜ r ≡ phaseEnded kind lost ok ⌝ }
-{
-    if lost {
-        return Phase::Closed;
-    }
-    if ok {
-        return Phase::Open;
-    }
-    match kind {
-        Kind::Connect => Phase::Closed,
-        Kind::Frame => Phase::Open,
-        Kind::Plain => Phase::Open,
     }
 }

@@ -13,9 +13,10 @@ use Rattle.agreement.specs.Demand3.{Item, Bytes, Buffers, Moment, history, InSt
 use Rattle.agreement.specs.Rows.{bytes-drop}
 use Rattle.agreement.specs.Theorem.{demand3}
 use Rattle.session_run.specs.Ran.{moment}
-use Rattle.session_run.specs.Items.{ITEM, callAt, budgetAt, sizeAt, itemThen, itemsFrom, itemsOf, actsOf}
-use Rattle.session_run.specs.declared.Listed.{Listed}
-use Rattle.session_run.specs.declared.Listed.the-variants.{Call, Nothing}
+use Rattle.session_items.specs.Records.{ITEM, callAt, budgetAt, sizeAt}
+use Rattle.session_run.specs.Items.{itemThen, itemsFrom, itemsOf, actsOf}
+use Rattle.session_items.specs.declared.Listed.{Listed}
+use Rattle.session_items.specs.declared.Listed.the-variants.{Call, Nothing}
 
 bytes-take : (n : ℕ) (l : List ℕ) → Bytes l → Bytes (take n l)
 bytes-take zero l h i = omega arith

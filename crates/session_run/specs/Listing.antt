@@ -12,10 +12,11 @@ use Rattle.session.specs.Step.{standing}
 use Rattle.session_rules.specs.declared.SessionCall.{SessionCall}
 use Rattle.session.specs.declared.Session.{Session}
 use Rattle.agreement.specs.Demand3.{Item, Moment, Made, made, history}
-use Rattle.session_run.specs.declared.Listed.the-variants.{Call, Nothing}
+use Rattle.session_items.specs.declared.Listed.the-variants.{Call, Nothing}
 use Rattle.session_run.specs.declared.CallRan.{CallRan}
 use Rattle.session_run.specs.Ran.{moment, item, CallRuns}
-use Rattle.session_run.specs.Items.{ITEM, callAt, budgetAt, sizeAt, itemThen, itemsFrom, codeOf, ListRuns}
+use Rattle.session_items.specs.Records.{ITEM, callAt, budgetAt, sizeAt}
+use Rattle.session_run.specs.Items.{itemThen, itemsFrom, codeOf, ListRuns}
 use Rattle.session_run.specs.ListLaws.{Going, going-start, going-more, left}
 
 -- a part of the bytes, lent and put back

@@ -1,6 +1,6 @@
 -- A walk that has arrived, with a session that stands there, is what `made` says. Serves the proofs only.
 use Prim.Native.Nat.{ℕ}
-use mathlib.Core.Bool.{Bool, true, false, not, _&&_, _||_}
+use mathlib.Core.Bool.{Bool, true, false, not, _&&_}
 use mathlib.Core.List.{List, []}
 use mathlib.Core.Path.{_≡_, refl, sym, ap, _∙_}
 use lib.ListN.{length}
@@ -13,23 +13,26 @@ use Rattle.transport.specs.declared.Remembered.{Remembered}
 use Rattle.memap.specs.Flight.{memoryOf}
 use Rattle.numbers.specs.Results.{endingOf, resultOf}
 use Rattle.numbers.specs.declared.CallEnding.{CallEnding}
-use Rattle.calls_core.specs.declared.CoreCall.{CoreCall}
-use Rattle.calls_core.specs.declared.CoreCall.the-variants as C
+use Rattle.calls.specs.Calls.{coreFrame}
+use Rattle.calls.specs.declared.Frame.{Frame}
+use Rattle.calls.specs.declared.Frame.the-variants as F
 use Rattle.engine.specs.Step.{memoryIn, Waits}
 use Rattle.target.specs.declared.Target.{Target}
 use Rattle.target.specs.declared.Act.{Act}
 use Rattle.target_run.specs.Talk.{Talk, talk, silent}
 use Rattle.session_rules.specs.Admits.{isConnect, refusal}
-use Rattle.session_rules.specs.Session.{Standing, kindOf, frameLeft, frameAfter, opensAfter, succeeds, finishes, sessionTree, isOpen, phaseAfter}
+use Rattle.session_phase.specs.Phase.{opensAfter, isOpen, connects, phaseAfter}
+use Rattle.session_phase.specs.Ended.{open-phase}
+use Rattle.session_rules.specs.Session.{Standing, kindBy, kindOf, frameLeft, frameAfter, sessionTree}
 use Rattle.session.specs.Step.{phaseIn, frameIn, standing, Answers}
 use Rattle.session_rules.specs.declared.SessionCall.{SessionCall}
 use Rattle.session_rules.specs.declared.SessionCall.the-variants as S
 use Rattle.session_rules.specs.declared.Check.{Check}
 use Rattle.session_rules.specs.declared.Check.the-variants.{Pass, Refuse}
-use Rattle.session_rules.specs.declared.Kind.{Kind}
-use Rattle.session_rules.specs.declared.Kind.the-variants as K
-use Rattle.session_rules.specs.declared.Phase.{Phase}
-use Rattle.session_rules.specs.declared.Phase.the-variants as P
+use Rattle.session_phase.specs.declared.Kind.{Kind}
+use Rattle.session_phase.specs.declared.Kind.the-variants as K
+use Rattle.session_phase.specs.declared.Phase.{Phase}
+use Rattle.session_phase.specs.declared.Phase.the-variants as P
 use Rattle.session.specs.declared.Session.{Session}
 use Rattle.session.specs.declared.Reply.{Reply}
 use Rattle.agreement.specs.Demand3.{Moment, made, madeIf}
@@ -37,48 +40,27 @@ use Rattle.session_run.specs.declared.CallRan.{CallRan}
 use Rattle.session_run.specs.Ran.{moment, item, CallRuns}
 use Rattle.session_run.specs.Walk.{Arrived}
 
--- the step's rule for being open is the run's
-plain-opens : (lost : Bool) (o : Outcome) → isOpen (phaseAfter K.Plain lost o) ≡ not lost && (succeeds (ended o) || true)
-plain-opens true o = refl
-plain-opens false (Value v) = refl
-plain-opens false (Failed e) = refl
+-- the step's rule for being open is the run's: a connect is told by its kind as by the call
+kind-connects : (c : SessionCall) → connects (kindOf c) ≡ isConnect c
+kind-connects S.ConnectSwd = refl
+kind-connects (S.ReadWord addr) = refl
+kind-connects (S.WriteWord addr word) = refl
+kind-connects (S.ReadMem addr) = refl
+kind-connects (S.WriteMem addr) = refl
+kind-connects (S.Core c) = frame-connects (coreFrame c)
+  where
+    frame-connects : (f : Frame) → connects (kindBy f) ≡ false
+    frame-connects F.Nowhere = refl
+    frame-connects F.Found = refl
+    frame-connects F.Left = refl
+kind-connects (S.Fpb c) = refl
 
-frame-opens : (lost : Bool) (o : Outcome) → isOpen (phaseAfter K.Frame lost o) ≡ not lost && (succeeds (ended o) || true)
-frame-opens true o = refl
-frame-opens false (Value v) = refl
-frame-opens false (Failed e) = refl
+phase-opens : (c : SessionCall) (lost : Bool) (o : Outcome) → isOpen (phaseAfter (kindOf c) lost o) ≡ opensAfter (isConnect c) lost (ended o)
+phase-opens c lost o = open-phase _ ∙ ap (λ (connect : Bool). opensAfter connect lost (ended o)) (kind-connects c)
 
-core-opens : (c : CoreCall) (lost : Bool) (o : Outcome) → isOpen (phaseAfter (kindOf (S.Core c)) lost o) ≡ not lost && (succeeds (ended o) || true)
-core-opens C.DebugEnable lost o = plain-opens lost o
-core-opens C.Halt lost o = plain-opens lost o
-core-opens C.Resume lost o = plain-opens lost o
-core-opens C.Step lost o = plain-opens lost o
-core-opens C.IsHalted lost o = plain-opens lost o
-core-opens (C.ReadCoreReg reg) lost o = plain-opens lost o
-core-opens (C.WriteCoreReg reg value) lost o = plain-opens lost o
-core-opens (C.RomFuncLookup a b) lost o = plain-opens lost o
-core-opens (C.StartFunction f) lost o = frame-opens lost o
-core-opens (C.FinishFunction polls) lost o = plain-opens lost o
-core-opens (C.CallFunction f polls) lost o = plain-opens lost o
-
-connect-opens : (lost : Bool) (o : Outcome) → isOpen (phaseAfter K.Connect lost o) ≡ opensAfter S.ConnectSwd lost (ended o)
-connect-opens true o = refl
-connect-opens false (Value v) = refl
-connect-opens false (Failed e) = refl
-
-phase-opens : (c : SessionCall) (lost : Bool) (o : Outcome) → isOpen (phaseAfter (kindOf c) lost o) ≡ opensAfter c lost (ended o)
-phase-opens S.ConnectSwd lost o = connect-opens lost o
-phase-opens (S.ReadWord addr) lost o = plain-opens lost o
-phase-opens (S.WriteWord addr word) lost o = plain-opens lost o
-phase-opens (S.ReadMem addr) lost o = plain-opens lost o
-phase-opens (S.WriteMem addr) lost o = plain-opens lost o
-phase-opens (S.Core c) lost o = core-opens c lost o
-phase-opens (S.Fpb c) lost o = plain-opens lost o
-
-spent-closed : (lost connect : Bool) → false ≡ not lost && (false || not connect && false)
-spent-closed true connect = refl
-spent-closed false true = refl
-spent-closed false false = refl
+spent-closed : (lost : Bool) → false ≡ not lost && false
+spent-closed true = refl
+spent-closed false = refl
 
 standing-is : (a b : Bool) (r q : Remembered) (f g : List ℕ) → a ≡ b → r ≡ q → f ≡ g
   → _≡_ {A = Standing} (record { isOpen = a; remembered = r; frame = f }) (record { isOpen = b; remembered = q; frame = g })
@@ -86,13 +68,13 @@ standing-is a b r q f g h i j = rw (h, i, j)
 
 -- the session at the end of a call, and where its budget ended
 pub record Settles (s₀ : Session) (c : SessionCall) (lost : Bool) (m : Memory) (e : Ending) (s : Session) (lent : List ℕ) : Type 0 where
-  pub stands : standing s ≡ record { isOpen = opensAfter c lost e; remembered = m .remembered; frame = frameAfter c e (m .words) (s₀ .frame) }
+  pub stands : standing s ≡ record { isOpen = opensAfter (isConnect c) lost e; remembered = m .remembered; frame = frameAfter c e (m .words) (s₀ .frame) }
   pub buf : lent ≡ m .buf
 
 pub settles-done : (s₀ : Session) (c : SessionCall) (lost : Bool) (m : Memory) (o : Outcome) (s : Session) (r : Reply) (lent : List ℕ)
   → Answers (kindOf c) lost (s₀ .frame) (done m o) s r lent → Settles s₀ c lost m (ended o) s lent
 settles-done s₀ c lost m o s r lent h = record {
-  stands = standing-is (isOpen (s .phase)) (opensAfter c lost (ended o)) (s .state .remembered) (m .remembered) (s .frame) (frameLeft (kindOf c) o (m .words) (s₀ .frame))
+  stands = standing-is (isOpen (s .phase)) (opensAfter (isConnect c) lost (ended o)) (s .state .remembered) (m .remembered) (s .frame) (frameLeft (kindOf c) o (m .words) (s₀ .frame))
     (ap isOpen (h .phase) ∙ phase-opens c lost o) (ap (λ (x : Memory). x .remembered) (h .memory)) (h .frame);
   buf = ap (λ (x : Memory). x .buf) (h .memory) }
 
@@ -109,8 +91,8 @@ running-frame kind (tell m c w) f g = refl
 pub settles-spent : (s₀ : Session) (c : SessionCall) (lost : Bool) (w : Wire) (s : Session) (r : Reply) (lent : List ℕ) → Waits w
   → Answers (kindOf c) lost (s₀ .frame) w s r lent → Settles s₀ c lost (memoryIn w) spent s lent
 settles-spent s₀ c lost w s r lent g h = record {
-  stands = standing-is (isOpen (s .phase)) (opensAfter c lost spent) (s .state .remembered) (memoryIn w .remembered) (s .frame) (s₀ .frame)
-    (ap isOpen (h .phase) ∙ running-closed (kindOf c) lost w g ∙ spent-closed lost (isConnect c)) (ap (λ (x : Memory). x .remembered) (h .memory))
+  stands = standing-is (isOpen (s .phase)) (opensAfter (isConnect c) lost spent) (s .state .remembered) (memoryIn w .remembered) (s .frame) (s₀ .frame)
+    (ap isOpen (h .phase) ∙ running-closed (kindOf c) lost w g ∙ spent-closed lost) (ap (λ (x : Memory). x .remembered) (h .memory))
     (h .frame ∙ running-frame (kindOf c) w (s₀ .frame) g);
   buf = ap (λ (x : Memory). x .buf) (h .memory) }
 

@@ -18,7 +18,8 @@ use Rattle.transport.specs.declared.Transfer.{Transfer}
 use Rattle.numbers.specs.Results.{resultOf}
 use Rattle.numbers.specs.declared.CallEnding.{CallEnding}
 use Rattle.numbers.specs.declared.TransportCall.{TransportCall}
-use Rattle.engine.specs.State.{stateTree, dueOf}
+use Rattle.transport.specs.Flight.{dueOf}
+use Rattle.engine.specs.State.{stateTree}
 use Rattle.engine.specs.Step.{nextOf, memoryIn, Waits}
 use Rattle.engine.specs.declared.NextStep.{NextStep}
 use Rattle.engine.specs.declared.NextStep.the-variants as N
@@ -28,14 +29,15 @@ use Rattle.target.specs.declared.Target.{Target}
 use Rattle.target.specs.declared.Act.{Act}
 use Rattle.target_run.specs.Talk.{Talk, talk, actNow, actsThen}
 use Rattle.session_rules.specs.Admits.{refusal}
-use Rattle.session_rules.specs.Session.{kindOf, isOpen}
+use Rattle.session_phase.specs.Phase.{isOpen}
+use Rattle.session_rules.specs.Session.{kindOf}
 use Rattle.session.specs.Step.{phaseIn, lostBy, Answers, Refused, StartedBy, Started, SteppedIn, Stepped}
 use Rattle.session_rules.specs.declared.SessionCall.{SessionCall}
 use Rattle.session_rules.specs.declared.Check.{Check}
 use Rattle.session_rules.specs.declared.Check.the-variants.{Pass, Refuse}
-use Rattle.session_rules.specs.declared.Kind.{Kind}
-use Rattle.session_rules.specs.declared.Phase.{Phase}
-use Rattle.session_rules.specs.declared.Phase.the-variants as P
+use Rattle.session_phase.specs.declared.Kind.{Kind}
+use Rattle.session_phase.specs.declared.Phase.{Phase}
+use Rattle.session_phase.specs.declared.Phase.the-variants as P
 use Rattle.session.specs.declared.Session.{Session}
 use Rattle.session.specs.declared.Reply.{Reply}
 use Rattle.agreement.specs.Demand3.{made}

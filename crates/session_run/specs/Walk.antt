@@ -14,7 +14,8 @@ use Rattle.target.specs.declared.Target.{Target}
 use Rattle.target.specs.declared.Act.{Act}
 use Rattle.target_run.specs.Talk.{Talk, talk, silent, heardFirst, actNow, actsThen}
 use Rattle.engine.specs.Step.{memoryIn, Waits}
-use Rattle.session_rules.specs.Session.{loss, lostIn}
+use Rattle.session_phase.specs.Phase.{loss}
+use Rattle.session_rules.specs.Session.{lostIn}
 use Rattle.session.specs.Step.{lostBy}
 use Rattle.agreement.specs.Safe.{or-more, or-none}
 

@@ -1,18 +1,17 @@
 // Session calls over the model target and the line, without hardware: one call, and a list of them.
 ghost use mathlib.Core.Path.{_≡_};
-ghost use Prim.Native.Nat.{_%_, _≤_, min};
-ghost use lib.ListN.{length, getD, drop, set};
+ghost use Prim.Native.Nat.{min};
+ghost use lib.ListN.{length, drop, set};
 ghost use Rattle.target_run.specs.Talk.{actNow, actsThen};
 ghost use Rattle.agreement.specs.Demand3.{made, history};
 ghost use Rattle.session_run.specs.Ran.{moment, item, CallRuns};
-ghost use Rattle.session_run.specs.Items.{arg, functionAt, memoryAt, coreAt, fpbAt, byNumber, codeOf, actsOf, itemsOf, ListRuns};
+ghost use Rattle.session_run.specs.Items.{codeOf, actsOf, itemsOf, ListRuns};
 ghost use Rattle.session_run.specs.Under.{dueNow};
 ghost use Rattle.session_run.specs.Turn.{Turns};
-use calls_core::{CoreCall, Function};
-use calls_fpb::FpbCall;
 use engine::NextStep;
 use numbers::CallEnding;
 use session::{Reply, Session};
+use session_items::Listed;
 use session_rules::SessionCall;
 use target::{Act, Target};
 use transport::Call;
@@ -40,115 +39,6 @@ pub struct ListRan {
     pub calls: usize,
 }
 
-// The call of a record, or that its number is none of a session's.
-pub enum Listed {
-    Call(SessionCall),
-    Nothing,
-}
-
-// A word of a list; past its end it is 0.
-fn word_at(ws: &[u32], i: usize) -> u32
-    ensures { λ r. ⌜ r ≡ getD (now (ws .entry)) i 0 ⌝ }
-{
-    if i < ws.len() {
-        return ws[i];
-    }
-    0
-}
-
-// Argument k of the record at `at`, which is inside the list.
-fn arg_at(ws: &[u32], at: usize, k: usize) -> u32
-    requires { ⌜ (at ≤ length (now ws)) × (k ≤ 7) ⌝ }
-    ensures { λ r. ⌜ r ≡ arg (now (ws .entry)) at k ⌝ }
-{
-    word_at(ws, at + (3 + k))
-}
-
-fn function_at(ws: &[u32], at: usize) -> Function
-    requires { ⌜ at ≤ length (now ws) ⌝ }
-    ensures { λ r. ⌜ r ≡ functionAt (now (ws .entry)) at ⌝ }
-{
-    Function {
-        fn_addr: arg_at(ws, at, 0),
-        a0: arg_at(ws, at, 1),
-        a1: arg_at(ws, at, 2),
-        a2: arg_at(ws, at, 3),
-        a3: arg_at(ws, at, 4),
-        sp: arg_at(ws, at, 5),
-        trampoline: arg_at(ws, at, 6),
-    }
-}
-
-// Calls 3, 9, 10, 13 and 14.
-fn memory_at(n: u32, ws: &[u32], at: usize) -> Listed
-    requires { ⌜ at ≤ length (now ws) ⌝ }
-    ensures { λ r. ⌜ r ≡ memoryAt n (now (ws .entry)) at ⌝ }
-{
-    match n {
-        3 => Listed::Call(SessionCall::ConnectSwd),
-        9 => Listed::Call(SessionCall::ReadWord(arg_at(ws, at, 0))),
-        10 => Listed::Call(SessionCall::WriteWord(arg_at(ws, at, 0), arg_at(ws, at, 1))),
-        13 => Listed::Call(SessionCall::ReadMem(arg_at(ws, at, 0))),
-        14 => Listed::Call(SessionCall::WriteMem(arg_at(ws, at, 0))),
-        _ => Listed::Nothing,
-    }
-}
-
-// Calls 15 to 25.
-fn core_at(n: u32, ws: &[u32], at: usize) -> Listed
-    requires { ⌜ at ≤ length (now ws) ⌝ }
-    ensures { λ r. ⌜ r ≡ coreAt n (now (ws .entry)) at ⌝ }
-{
-    match n {
-        15 => Listed::Call(SessionCall::Core(CoreCall::DebugEnable)),
-        16 => Listed::Call(SessionCall::Core(CoreCall::Halt)),
-        17 => Listed::Call(SessionCall::Core(CoreCall::Resume)),
-        18 => Listed::Call(SessionCall::Core(CoreCall::Step)),
-        19 => Listed::Call(SessionCall::Core(CoreCall::IsHalted)),
-        20 => Listed::Call(SessionCall::Core(CoreCall::ReadCoreReg(byte_of(arg_at(ws, at, 0))))),
-        21 => Listed::Call(SessionCall::Core(CoreCall::WriteCoreReg(byte_of(arg_at(ws, at, 0)), arg_at(ws, at, 1)))),
-        22 => Listed::Call(SessionCall::Core(CoreCall::RomFuncLookup(byte_of(arg_at(ws, at, 0)), byte_of(arg_at(ws, at, 1))))),
-        23 => Listed::Call(SessionCall::Core(CoreCall::StartFunction(function_at(ws, at)))),
-        24 => Listed::Call(SessionCall::Core(CoreCall::FinishFunction(arg_at(ws, at, 0)))),
-        25 => Listed::Call(SessionCall::Core(CoreCall::CallFunction(function_at(ws, at), arg_at(ws, at, 7)))),
-        _ => Listed::Nothing,
-    }
-}
-
-// The low byte of a word.
-fn byte_of(x: u32) -> u8
-    ensures { λ r. ⌜ r ≡ x % 256 ⌝ }
-{
-    (x % 256) as u8
-}
-
-// Calls 26 to 28.
-fn fpb_at(n: u32, ws: &[u32], at: usize) -> Listed
-    requires { ⌜ at ≤ length (now ws) ⌝ }
-    ensures { λ r. ⌜ r ≡ fpbAt n (now (ws .entry)) at ⌝ }
-{
-    match n {
-        26 => Listed::Call(SessionCall::Fpb(FpbCall::HwBreakpointSet(arg_at(ws, at, 0)))),
-        27 => Listed::Call(SessionCall::Fpb(FpbCall::HwBreakpointClear(arg_at(ws, at, 0)))),
-        28 => Listed::Call(SessionCall::Fpb(FpbCall::HwBreakpointAt(arg_at(ws, at, 0)))),
-        _ => Listed::Nothing,
-    }
-}
-
-// The call of a record by its number.
-fn by_number(n: u32, ws: &[u32], at: usize) -> Listed
-    requires { ⌜ at ≤ length (now ws) ⌝ }
-    ensures { λ r. ⌜ r ≡ byNumber n (now (ws .entry)) at ⌝ }
-{
-    if n <= 14 {
-        return memory_at(n, ws, at);
-    }
-    if n <= 25 {
-        return core_at(n, ws, at);
-    }
-    fpb_at(n, ws, at)
-}
-
 // How many bytes a buffer gets where `left` are left.
 fn fitting(size: u32, left: usize) -> usize
     ensures { λ r. ⌜ r ≡ min size left ⌝ }
@@ -172,7 +62,7 @@ fn note_result(results: &mut [u64], i: usize, e: CallEnding)
 fn act_at(acts: &[u32], at: usize) -> Act
     ensures { λ r. ⌜ r ≡ actNow (actsOf (drop at (now (acts .entry)))) ⌝ }
 {
-    target_run::act_of(word_at(acts, at))
+    target_run::act_of(session_items::word_at(acts, at))
 }
 
 // The place of the act after that.
@@ -189,17 +79,14 @@ fn next_at(acts: &[u32], at: usize) -> usize
 fn due(s: Session) -> Call
     ensures { λ r. ⌜ r ≡ dueNow s ⌝ }
 {
-    let state = s.state;
-    let started = state.started;
-    let launched = started.launched;
-    engine::due(launched.transfer)
+    transport::due(s.state.started.launched.transfer)
 }
 
 // The transport call that is due goes over the line, and the session makes a step of its answer.
 fn turn(s: Session, act: Act, t: Target, mem: &mut [u8], buf: &mut [u8]) -> Turned
     ensures { λ r. ⌜ Turns s act t (now (mem .entry)) (now (buf .entry)) r (now (mem .exit)) (now (buf .exit)) ⌝ }
 {
-    let d = target::over_line(t, due(s), act, mem);
+    let d = target_line::over_line(t, due(s), act, mem);
     let a = d.answer;
     let left = d.target;
     let x = session::session_step(s, a, buf);
@@ -256,13 +143,13 @@ pub fn run_list(s: Session, items: &[u32], acts: &[u32], t: Target, mem: &mut [u
     let mut i: usize = 0;
     while i < count {
         let at = i * ITEM;
-        match by_number(word_at(items, at), items, at) {
+        match session_items::call_at(items, at) {
             Listed::Nothing => {
                 return ListRan { session: session, target: target, calls: i };
             }
             Listed::Call(c) => {
-                let size = fitting(word_at(items, at + 2), bytes.len() - place);
-                let ran = run_call(session, c, word_at(items, at + 1), target, acts, from, mem, &mut bytes[place..place + size]);
+                let size = fitting(session_items::word_at(items, at + 2), bytes.len() - place);
+                let ran = run_call(session, c, session_items::word_at(items, at + 1), target, acts, from, mem, &mut bytes[place..place + size]);
                 note_result(results, i, ran.ending);
                 session = ran.session;
                 target = ran.target;

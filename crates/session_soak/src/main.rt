@@ -1,14 +1,15 @@
 // A soak of the session over target and line: pseudo-random lists of calls with faults, and the four clauses of demand 3 checked
 // by execution after every call. The theorem says as much of every list; this shows that the code under it runs, and how often.
 // It prints how many lists, calls, refusals and losses it saw, and how many checks failed.
+ghost use Prim.Native.Nat.{_≤_};
 use calls_core::CoreCall;
 use calls_fpb::FpbCall;
 use engine::NextStep;
-use numbers::CallEnding;
+use numbers::{CallEnding, TransportCall};
 use session::{Reply, Session, SessionAnswer};
 use session_rules::SessionCall;
 use target::{Act, Loss, Target};
-use transport::{Answer, Call};
+use transport::{Answer, Call, Remembered};
 
 const LISTS: u32 = 100000;
 
@@ -27,26 +28,18 @@ pub struct Seen {
     pub failed: u64,
 }
 
-// Session, target and the generator's number between calls; `open` is by the trace alone.
+// All but the session: the target, a line that fails once in `rate` transport calls, the generator's number, the last answer.
+// By the trace alone: whether a transport call of this call was lost, whether the next one is an ignored ABORT, whether the session
+// was open before.
 pub struct World {
-    pub session: Session,
     pub target: Target,
+    pub rate: u32,
     pub random: u32,
-    pub open: bool,
-}
-
-// What the trace shows so far: whether a transport call was lost, whether the next one is an ignored ABORT.
-pub struct Trace {
+    pub answer: Answer,
     pub lost: bool,
     pub abort: bool,
-}
-
-pub struct Driven {
-    pub world: World,
-    pub ending: CallEnding,
-    pub trace: Trace,
-    pub count: u64,
-    pub losses: u64,
+    pub open: bool,
+    pub seen: Seen,
 }
 
 fn plus(n: u64, m: u64) -> u64 {
@@ -76,30 +69,14 @@ fn is_loss(a: Answer) -> bool {
     }
 }
 
-fn is_abort_due(c: Call, a: Answer) -> bool {
-    match c {
-        Call::Transfer { .. } => match a {
-            Answer::Good(_) => false,
-            Answer::SwdError(k) => k != 2,
-            Answer::NotSupported => true,
-            Answer::Other => true,
-        },
-        Call::Connect => false,
-        Call::Sequence(_) => false,
-        Call::Pins { .. } => false,
-        Call::WriteBits { .. } => false,
-        Call::OutputEnable => false,
+// An error of a transfer, WAIT excepted, is followed by an ABORT.
+fn is_abort_due(transfer: bool, a: Answer) -> bool {
+    match a {
+        Answer::Good(_) => false,
+        Answer::SwdError(k) => transfer && k != 2,
+        Answer::NotSupported => transfer,
+        Answer::Other => transfer,
     }
-}
-
-fn traced(t: Trace, c: Call, a: Answer) -> Trace {
-    if t.abort {
-        return Trace { lost: t.lost, abort: false };
-    }
-    if is_loss(a) {
-        return Trace { lost: true, abort: is_abort_due(c, a) };
-    }
-    Trace { lost: t.lost, abort: is_abort_due(c, a) }
 }
 
 fn some_loss(x: u32) -> Loss {
@@ -127,99 +104,87 @@ fn some_act(x: u32, rate: u32) -> Act {
     }
 }
 
-// The transport call that is due.
-fn due(s: Session) -> Call {
-    let state = s.state;
-    let started = state.started;
-    let launched = started.launched;
-    let t = launched.transfer;
-    engine::due(t)
+// Of a transport call the target sees the transfers; the others reach no register.
+fn is_transfer(c: TransportCall) -> bool {
+    c.kind == 0x54
 }
 
-// A call under way.
-pub struct Going {
-    pub session: Session,
-    pub reply: Reply,
-    pub target: Target,
-    pub random: u32,
-    pub trace: Trace,
-    pub losses: u64,
-    pub count: u64,
+fn call_of(c: TransportCall) -> Call {
+    if is_transfer(c) {
+        return Call::Transfer { request: c.request, word: c.word };
+    }
+    Call::Connect
 }
 
-fn is_due(r: Reply) -> bool {
+// One more transport call.
+fn tallied(s: Seen, loss: bool) -> Seen {
+    let mut n = s;
+    n.transport = plus(n.transport, 1);
+    if loss {
+        n.lost = plus(n.lost, 1);
+    }
+    n
+}
+
+// One transport call over the line.
+fn made(w: World, c: TransportCall, mem: &mut [u8]) -> World {
+    let x = w.random;
+    let d = target_line::over_line(w.target, call_of(c), some_act(x, w.rate), mem);
+    let t = d.target;
+    let a = d.answer;
+    let lost = w.lost || (!w.abort && is_loss(a));
+    let abort = !w.abort && is_abort_due(is_transfer(c), a);
+    let seen = tallied(w.seen, is_loss(a));
+    World { target: t, rate: w.rate, random: next(next(x)), answer: a, lost: lost, abort: abort, open: w.open, seen: seen }
+}
+
+// The transport call that is due goes over the line.
+fn sent(w: World, r: Reply, mem: &mut [u8]) -> World {
     let n = r.next;
     match n {
-        NextStep::Make(_) => true,
-        NextStep::Finish(_) => false,
+        NextStep::Make(c) => made(w, c, mem),
+        NextStep::Finish(_) => w,
     }
 }
 
-// One transport call over the line, and the session's step.
-fn one_transport(g: Going, rate: u32, mem: &mut [u8], buf: &mut [u8]) -> Going {
-    let s = g.session;
-    let t = g.target;
-    let trace = g.trace;
-    let x = g.random;
-    let c = due(s);
-    let d = target::over_line(t, c, some_act(x, rate), mem);
-    let u = d.target;
-    let a = d.answer;
-    let mut losses = g.losses;
-    if is_loss(a) {
-        losses = plus(losses, 1);
+// How many of `n` transport calls may be made: none where none is due.
+fn allowed(r: Reply, n: u32) -> u32
+    ensures { λ k. ⌜ k ≤ n ⌝ }
+{
+    let next = r.next;
+    match next {
+        NextStep::Make(_) => n,
+        NextStep::Finish(_) => 0,
     }
-    let r = session::session_step(s, a, buf);
-    let s2 = r.session;
-    let reply = r.reply;
-    Going { session: s2, reply: reply, target: u, random: next(next(x)), trace: traced(trace, c, a), losses: losses, count: plus(g.count, 1) }
 }
 
-// To the call's end or its budget's.
-fn walk(start: Going, rate: u32, budget: u32, mem: &mut [u8], buf: &mut [u8]) -> Going {
-    let mut g = start;
-    let mut left = budget;
-    while 0 < left {
-        left -= 1;
-        let r = g.reply;
-        if !is_due(r) {
-            return g;
-        }
-        g = one_transport(g, rate, mem, buf);
-    }
-    g
-}
-
-// A call from its start on, over target and line.
-fn drive(start: SessionAnswer, w: World, rate: u32, budget: u32, mem: &mut [u8], buf: &mut [u8]) -> Driven {
-    let s = start.session;
-    let reply = start.reply;
-    let t = w.target;
-    let fresh = Trace { lost: false, abort: false };
-    let g = walk(Going { session: s, reply: reply, target: t, random: w.random, trace: fresh, losses: 0, count: 0 }, rate, budget, mem, buf);
-    let r = g.reply;
+// A call whose budget ends before it does is Spent.
+fn ending_of(r: Reply) -> CallEnding {
     let n = r.next;
-    let ending = match n {
+    match n {
         NextStep::Make(_) => CallEnding { number: 11, value: 0 },
         NextStep::Finish(e) => e,
-    };
-    let s2 = g.session;
-    let u = g.target;
-    let trace = g.trace;
-    Driven { world: World { session: s2, target: u, random: g.random, open: w.open }, ending: ending, trace: trace, count: g.count, losses: g.losses }
+    }
 }
 
-// What is asked of memory: read or write of `len` bytes from `addr` on, or neither.
-pub enum Claim {
-    Nothing,
-    Reads { addr: u32, len: u32 },
-    Writes { addr: u32, len: u32 },
+// What a call is: those that read or write memory apart.
+pub enum What {
+    ReadWord,
+    WriteWord,
+    ReadBytes,
+    WriteBytes,
+    Other,
+    Connect,
 }
 
+// A call: `len` bytes from `addr` on, the word to be written, the choice of another call, and the budget.
 pub struct Asked {
-    pub call: SessionCall,
-    pub claim: Claim,
+    pub what: What,
+    pub addr: u32,
+    pub word: u32,
+    pub other: u32,
     pub len: u32,
+    pub budget: u32,
 }
 
 // An address in or near the memory; most are whole words.
@@ -231,33 +196,69 @@ fn some_addr(x: u32) -> u32 {
     std::num::wrapping_sub_u32(a, a % 4)
 }
 
-fn other_call(x: u32) -> SessionCall {
-    match below(x, 6) {
-        0 => SessionCall::Core(CoreCall::DebugEnable),
-        1 => SessionCall::Core(CoreCall::Halt),
-        2 => SessionCall::Core(CoreCall::IsHalted),
-        3 => SessionCall::Core(CoreCall::FinishFunction(2)),
-        4 => SessionCall::Fpb(FpbCall::HwBreakpointSet(0x102)),
-        _ => SessionCall::Core(CoreCall::ReadCoreReg(15)),
+fn core_call(n: u32) -> CoreCall {
+    match n {
+        0 => CoreCall::DebugEnable,
+        1 => CoreCall::Halt,
+        2 => CoreCall::IsHalted,
+        3 => CoreCall::FinishFunction(2),
+        _ => CoreCall::ReadCoreReg(15),
     }
+}
+
+fn other_call(x: u32) -> SessionCall {
+    let n = below(x, 6);
+    if n == 4 {
+        return SessionCall::Fpb(FpbCall::HwBreakpointSet(0x102));
+    }
+    SessionCall::Core(core_call(n))
+}
+
+fn what_of(n: u32) -> What {
+    match n {
+        0 | 1 => What::ReadWord,
+        2 | 3 => What::WriteWord,
+        4 | 5 => What::ReadBytes,
+        6 | 7 => What::WriteBytes,
+        8 => What::Other,
+        _ => What::Connect,
+    }
+}
+
+// A word has 4 bytes.
+fn len_of(n: u32, len: u32) -> u32 {
+    match n {
+        0 | 1 | 2 | 3 => 4,
+        4 | 5 | 6 | 7 => len,
+        _ => 0,
+    }
+}
+
+// Most calls have budget enough; some do not.
+fn some_budget(x: u32) -> u32 {
+    if below(next(next(next(x))), 16) == 0 {
+        return below(x, 40);
+    }
+    4000
 }
 
 fn some_call(x: u32) -> Asked {
     let y = next(x);
     let z = next(y);
-    let a = some_addr(y);
-    let len = below(z, 25);
-    match below(x, 12) {
-        0 => Asked { call: SessionCall::ReadWord(a), claim: Claim::Reads { addr: a, len: 4 }, len: 4 },
-        1 => Asked { call: SessionCall::ReadWord(a), claim: Claim::Reads { addr: a, len: 4 }, len: 4 },
-        2 => Asked { call: SessionCall::WriteWord(a, z), claim: Claim::Writes { addr: a, len: 4 }, len: 4 },
-        3 => Asked { call: SessionCall::WriteWord(a, z), claim: Claim::Writes { addr: a, len: 4 }, len: 4 },
-        4 => Asked { call: SessionCall::ReadMem(a), claim: Claim::Reads { addr: a, len: len }, len: len },
-        5 => Asked { call: SessionCall::ReadMem(a), claim: Claim::Reads { addr: a, len: len }, len: len },
-        6 => Asked { call: SessionCall::WriteMem(a), claim: Claim::Writes { addr: a, len: len }, len: len },
-        7 => Asked { call: SessionCall::WriteMem(a), claim: Claim::Writes { addr: a, len: len }, len: len },
-        8 => Asked { call: other_call(y), claim: Claim::Nothing, len: 0 },
-        _ => Asked { call: SessionCall::ConnectSwd, claim: Claim::Nothing, len: 0 },
+    let n = below(x, 12);
+    let w = what_of(n);
+    Asked { what: w, addr: some_addr(y), word: z, other: y, len: len_of(n, below(z, 25)), budget: some_budget(x) }
+}
+
+fn session_call(a: Asked) -> SessionCall {
+    let w = a.what;
+    match w {
+        What::ReadWord => SessionCall::ReadWord(a.addr),
+        What::WriteWord => SessionCall::WriteWord(a.addr, a.word),
+        What::ReadBytes => SessionCall::ReadMem(a.addr),
+        What::WriteBytes => SessionCall::WriteMem(a.addr),
+        What::Other => other_call(a.other),
+        What::Connect => SessionCall::ConnectSwd,
     }
 }
 
@@ -292,15 +293,6 @@ fn written(ok: bool, within: bool, old: u8, now: u8, new: u8) -> bool {
     within && now == new
 }
 
-// Clauses 3 and 4: `given` has what was read or was to be written.
-fn memory_kept(c: Claim, ok: bool, before: &[u8], after: &[u8], given: &[u8]) -> bool {
-    match c {
-        Claim::Nothing => true,
-        Claim::Reads { addr, len } => read_kept(ok, addr, len, before, after, given),
-        Claim::Writes { addr, len } => write_kept(ok, addr, len, before, after, given),
-    }
-}
-
 // Whether a range lies in memory.
 fn inside(addr: u32, len: u32) -> bool {
     if addr < BASE {
@@ -313,54 +305,26 @@ fn inside(addr: u32, len: u32) -> bool {
     len <= BYTES - from
 }
 
-fn read_kept(ok: bool, addr: u32, len: u32, before: &[u8], after: &[u8], given: &[u8]) -> bool {
-    if ok {
-        if 0 < len {
-            if !inside(addr, len) {
-                return false;
-            }
-        }
+// Whether a byte of memory is as a call has to leave it: `given` is what was read there or was to be written.
+fn byte_kept(writes: bool, ok: bool, within: bool, old: u8, now: u8, given: u8) -> bool {
+    if writes {
+        return written(ok, within, old, now, given);
     }
-    let mut i: u32 = 0;
-    while i < BYTES {
-        if at(before, i) != at(after, i) {
-            return false;
-        }
-        let a = BASE + i;
-        if ok {
-            if addr <= a {
-                if a - addr < len {
-                    if at(given, a - addr) != at(after, i) {
-                        return false;
-                    }
-                }
-            }
-        }
-        i += 1;
+    if now != old {
+        return false;
     }
-    true
+    !(ok && within) || now == given
 }
 
-fn write_kept(ok: bool, addr: u32, len: u32, before: &[u8], after: &[u8], given: &[u8]) -> bool {
-    if ok {
-        if 0 < len {
-            if !inside(addr, len) {
-                return false;
-            }
-        }
+// Clauses 3 and 4, for a call that reads or writes `len` bytes from `addr` on.
+fn memory_kept(writes: bool, ok: bool, addr: u32, len: u32, before: &[u8], after: &[u8], given: &[u8]) -> bool {
+    if ok && 0 < len && !inside(addr, len) {
+        return false;
     }
     let mut i: u32 = 0;
     while i < BYTES {
-        let a = BASE + i;
-        let mut within = false;
-        let mut new: u8 = 0;
-        if addr <= a {
-            if a - addr < len {
-                within = true;
-                new = at(given, a - addr);
-            }
-        }
-        if !written(ok, within, at(before, i), at(after, i), new) {
+        let k = std::num::wrapping_sub_u32(BASE + i, addr);
+        if !byte_kept(writes, ok, k < len, at(before, i), at(after, i), at(given, k)) {
             return false;
         }
         i += 1;
@@ -369,23 +333,16 @@ fn write_kept(ok: bool, addr: u32, len: u32, before: &[u8], after: &[u8], given:
 }
 
 // Clause 2.
-fn agrees(s: Session, t: Target) -> bool {
-    let state = s.state;
-    let r = state.remembered;
-    if r.select != 0xFFFFFFFF {
-        if r.select != t.select {
-            return false;
-        }
+fn agrees(r: Remembered, t: Target) -> bool {
+    if r.select != 0xFFFFFFFF && r.select != t.select {
+        return false;
     }
-    if r.csw {
-        return t.csw == 0x23000012;
-    }
-    true
+    !r.csw || t.csw == 0x23000012
 }
 
 // Clause 1: whether the session has to be open after a call, by its result and its trace.
-fn opens(was: bool, connect: bool, ending: CallEnding, trace: Trace) -> bool {
-    if trace.lost {
+fn opens(was: bool, connect: bool, ending: CallEnding, lost: bool) -> bool {
+    if lost {
         return false;
     }
     if ending.number == 11 {
@@ -397,40 +354,15 @@ fn opens(was: bool, connect: bool, ending: CallEnding, trace: Trace) -> bool {
     was
 }
 
-fn is_connect(c: SessionCall) -> bool {
-    match c {
-        SessionCall::ConnectSwd => true,
-        SessionCall::ReadWord(_) => false,
-        SessionCall::WriteWord(_, _) => false,
-        SessionCall::ReadMem(_) => false,
-        SessionCall::WriteMem(_) => false,
-        SessionCall::Core(_) => false,
-        SessionCall::Fpb(_) => false,
+fn is_connect(w: What) -> bool {
+    match w {
+        What::ReadWord => false,
+        What::WriteWord => false,
+        What::ReadBytes => false,
+        What::WriteBytes => false,
+        What::Other => false,
+        What::Connect => true,
     }
-}
-
-pub struct Turn {
-    pub world: World,
-    pub seen: Seen,
-}
-
-// The word that call 10 writes or call 9 gave, as bytes; the buffer of the others.
-fn given_bytes(c: SessionCall, e: CallEnding, buf: [u8; 32]) -> [u8; 32] {
-    let mut g = buf;
-    match c {
-        SessionCall::ReadWord(_) => {
-            put_word(e.value, &mut g);
-        }
-        SessionCall::WriteWord(_, w) => {
-            put_word(w, &mut g);
-        }
-        SessionCall::ConnectSwd => {}
-        SessionCall::ReadMem(_) => {}
-        SessionCall::WriteMem(_) => {}
-        SessionCall::Core(_) => {}
-        SessionCall::Fpb(_) => {}
-    }
-    g
 }
 
 fn put_word(w: u32, g: &mut [u8; 32]) {
@@ -438,6 +370,26 @@ fn put_word(w: u32, g: &mut [u8; 32]) {
     g[1] = byte_of(w, 1);
     g[2] = byte_of(w, 2);
     g[3] = byte_of(w, 3);
+}
+
+// Whether memory is kept: by the buffer, or by the word that call 9 gave or call 10 writes.
+fn kept(a: Asked, e: CallEnding, before: &[u8; 128], after: &[u8; 128], buf: &mut [u8; 32]) -> bool {
+    let ok = e.number == 0;
+    let w = a.what;
+    match w {
+        What::ReadWord => {
+            put_word(e.value, buf);
+            memory_kept(false, ok, a.addr, a.len, before, after, buf)
+        }
+        What::WriteWord => {
+            put_word(a.word, buf);
+            memory_kept(true, ok, a.addr, a.len, before, after, buf)
+        }
+        What::ReadBytes => memory_kept(false, ok, a.addr, a.len, before, after, buf),
+        What::WriteBytes => memory_kept(true, ok, a.addr, a.len, before, after, buf),
+        What::Other => true,
+        What::Connect => true,
+    }
 }
 
 // Pseudo-random bytes.
@@ -455,12 +407,11 @@ fn some_bytes(x: u32) -> [u8; 32] {
     buf
 }
 
-fn counted(s: Seen, refused: bool, d: Driven, failed: bool) -> Seen {
+// One more call.
+fn counted(s: Seen, number: u8, failed: bool) -> Seen {
     let mut n = s;
     n.calls = plus(n.calls, 1);
-    n.lost = plus(n.lost, d.losses);
-    n.transport = plus(n.transport, d.count);
-    if refused {
+    if number == 8 || number == 9 || number == 10 {
         n.refused = plus(n.refused, 1);
     }
     if failed {
@@ -469,61 +420,24 @@ fn counted(s: Seen, refused: bool, d: Driven, failed: bool) -> Seen {
     n
 }
 
-// The call over the first `len` bytes of the buffer.
-fn over(w: World, c: SessionCall, rate: u32, budget: u32, mem: &mut [u8], buf: &mut [u8], len: usize) -> Driven {
-    let s = w.session;
-    if len <= buf.len() {
-        let r = session::session_start(s, c, &mut buf[..len]);
-        return drive(r, w, rate, budget, mem, &mut buf[..len]);
-    }
-    let r = session::session_start(s, c, buf);
-    drive(r, w, rate, budget, mem, buf)
-}
-
-// Whether clauses 1 and 2 hold after a call.
-fn in_step(w: World) -> bool {
-    let s = w.session;
-    let is = session::open(s);
-    if is != w.open {
-        return false;
-    }
-    if is {
-        let t = w.target;
-        return agrees(s, t);
-    }
-    true
-}
-
-// One call, and its checks.
-fn one_call(w: World, seen: Seen, rate: u32, mem: &mut [u8; 128]) -> Turn {
-    let x = w.random;
-    let asked = some_call(x);
-    let c = asked.call;
-    let claim = asked.claim;
-    let before = *mem;
-    let mut buf = some_bytes(x);
+// A call begins: nothing of it is lost yet.
+fn begun(w: World) -> World {
     let mut v = w;
-    v.random = next(next(next(next(x))));
-    let was = v.open;
-    let d = over(v, c, rate, some_budget(x), mem, &mut buf, asked.len as usize);
-    let ending = d.ending;
-    let trace = d.trace;
-    let mut u = d.world;
-    u.open = opens(was, is_connect(c), ending, trace);
-    let given = given_bytes(c, ending, buf);
-    let after = *mem;
-    let kept = memory_kept(claim, ending.number == 0, &before, &after, &given);
-    let refused = ending.number == 8 || ending.number == 9 || ending.number == 10;
-    let good = kept && in_step(u);
-    Turn { world: u, seen: counted(seen, refused, d, !good) }
+    v.random = next(next(next(next(w.random))));
+    v.lost = false;
+    v.abort = false;
+    v
 }
 
-// Most calls have budget enough; some do not.
-fn some_budget(x: u32) -> u32 {
-    if below(next(next(next(x))), 16) == 0 {
-        return below(x, 40);
-    }
-    4000
+// The checks after a call: `open` and `r` are the session's.
+fn checked(w: World, a: Asked, e: CallEnding, kept: bool, open: bool, r: Remembered) -> World {
+    let what = a.what;
+    let due = opens(w.open, is_connect(what), e, w.lost);
+    let good = kept && open == due && (!open || agrees(r, w.target));
+    let mut v = w;
+    v.open = due;
+    v.seen = counted(w.seen, e.number, !good);
+    v
 }
 
 // A target whose registers are arbitrary, over the same memory.
@@ -546,35 +460,82 @@ fn some_target(x: u32) -> Target {
     }
 }
 
-// A list of at most 11 calls on a fresh session.
-fn list_of(x: u32, seen: Seen, mem: &mut [u8; 128]) -> Turn {
-    let y = next(x);
+// A target, and a line that fails once in 4 to 63 transport calls.
+fn some_world(y: u32, seen: Seen) -> World {
+    let t = some_target(y);
     let rate = std::num::wrapping_add_u32(4, below(y, 60));
-    let w = World { session: session::fresh(), target: some_target(y), random: next(y), open: false };
-    let mut turn = Turn { world: w, seen: seen };
+    World { target: t, rate: rate, random: next(y), answer: Answer::Other, lost: false, abort: false, open: false, seen: seen }
+}
+
+fn fitting(len: u32, all: usize) -> usize
+    ensures { λ n. ⌜ n ≤ all ⌝ }
+{
+    if (len as usize) < all {
+        return len as usize;
+    }
+    all
+}
+
+// A fresh session, which has nothing due.
+fn idle() -> SessionAnswer {
+    let none = CallEnding { number: 0, value: 0 };
+    SessionAnswer { session: session::fresh(), reply: Reply { next: NextStep::Finish(none), bytes: [0u8; 16] } }
+}
+
+// A call's start and its step over the first `len` bytes of the buffer.
+fn start(s: Session, c: SessionCall, len: u32, buf: &mut [u8]) -> SessionAnswer {
+    let n = fitting(len, buf.len());
+    session::session_start(s, c, &mut buf[..n])
+}
+
+fn step(s: Session, a: Answer, len: u32, buf: &mut [u8]) -> SessionAnswer {
+    let n = fitting(len, buf.len());
+    session::session_step(s, a, &mut buf[..n])
+}
+
+fn remembered(s: Session) -> Remembered {
+    let state = s.state;
+    state.remembered
+}
+
+// A list of at most 11 calls on a fresh session, each with its checks.
+fn list_of(x: u32, seen: Seen, mem: &mut [u8; 128]) -> World {
+    let mut now = idle();
+    let mut w = some_world(next(x), seen);
     let mut left = below(x, 12);
     while 0 < left {
         left -= 1;
-        let v = turn.world;
-        let s = turn.seen;
-        turn = one_call(v, s, rate, mem);
+        let a = some_call(w.random);
+        let mut buf = some_bytes(w.random);
+        let before = *mem;
+        w = begun(w);
+        now = start(now.session, session_call(a), a.len, &mut buf);
+        let mut may = allowed(now.reply, a.budget);
+        while 0 < may {
+            w = sent(w, now.reply, mem);
+            let answer = w.answer;
+            now = step(now.session, answer, a.len, &mut buf);
+            may = allowed(now.reply, may - 1);
+        }
+        let e = ending_of(now.reply);
+        let good = kept(a, e, &before, mem, &mut buf);
+        w = checked(w, a, e, good, session::open(now.session), remembered(now.session));
     }
-    turn
+    w
+}
+
+fn show(n: u64, text: &[u8]) {
+    io::print_decimal(1, n);
+    io::write_all(1, text);
 }
 
 fn report(s: Seen) {
-    io::print_decimal(1, s.lists);
-    io::write_all(1, b" lists, ");
-    io::print_decimal(1, s.calls);
-    io::write_all(1, b" calls, ");
-    io::print_decimal(1, s.refused);
-    io::write_all(1, b" refused, ");
-    io::print_decimal(1, s.transport);
-    io::write_all(1, b" transport calls, ");
-    io::print_decimal(1, s.lost);
-    io::write_all(1, b" of them lost; ");
-    io::print_decimal(1, s.failed);
-    io::write_all(1, b" checks failed\n");
+    show(s.lists, b" lists, ");
+    show(s.calls, b" calls, ");
+    show(s.refused, b" refused, ");
+    show(s.transport, b" transport calls, ");
+    show(s.lost, b" of them lost; ");
+    show(s.failed, b" checks failed\n");
 }
 
 fn main() {
@@ -584,10 +545,9 @@ fn main() {
     let mut left = LISTS;
     while 0 < left {
         left -= 1;
-        let turn = list_of(x, seen, &mut mem);
-        seen = turn.seen;
+        let w = list_of(x, seen, &mut mem);
+        seen = w.seen;
         seen.lists = plus(seen.lists, 1);
-        let w = turn.world;
         x = w.random;
     }
     report(seen);

@@ -1,10 +1,11 @@
 // The accident that this project began with, step by step: the answer to a SELECT write is lost, and then the hours word is asked
 // for. Then lists of calls with their endings. The file stdout beside src/ has what 01 says of each.
+ghost use Prim.Native.Nat.{_≤_};
 use engine::NextStep;
 use numbers::{CallEnding, TransportCall};
-use session::{Reply, Session};
+use session::{Reply, Session, SessionAnswer};
 use session_rules::SessionCall;
-use target::{Act, Loss, Target};
+use target::{Act, Delivered, Loss, Target};
 use transport::{Answer, Call};
 
 // Where the hours word lies, in 1 KiB of memory.
@@ -12,11 +13,6 @@ const HOURS: u32 = 0x20000010;
 
 // The words of a call in a list.
 const ITEM: usize = 11;
-
-pub struct Bench {
-    pub session: Session,
-    pub target: Target,
-}
 
 // A controller after a reset: not powered, another bank selected, an ID register's value left in the read buffer.
 fn controller() -> Target {
@@ -82,20 +78,20 @@ fn show_ending(e: CallEnding) {
     show_hex(e.value);
 }
 
-fn show_open(s: Session) {
-    if session::open(s) {
+fn show_open(open: bool) {
+    if open {
         write(b"open\n");
     } else {
         write(b"closed\n");
     }
 }
 
-fn due(s: Session) -> Call {
-    let state = s.state;
-    let started = state.started;
-    let launched = started.launched;
-    let t = launched.transfer;
-    engine::due(t)
+// Of a transport call the target sees the transfers; the others reach no register.
+fn call_of(c: TransportCall) -> Call {
+    if c.kind == 0x54 {
+        return Call::Transfer { request: c.request, word: c.word };
+    }
+    Call::Connect
 }
 
 // The line delivers, but loses the answer of the transport call with the number `lost`.
@@ -106,73 +102,115 @@ fn act(n: u32, lost: u32) -> Act {
     Act::Deliver
 }
 
-// A call under way.
-pub struct Going {
-    pub session: Session,
-    pub reply: Reply,
-    pub target: Target,
-}
-
 // One transport call, shown with its answer.
-fn one_shown(g: Going, call: TransportCall, what: Act, mem: &mut [u8]) -> Going {
-    let mut none = [0u8; 0];
-    let s = g.session;
-    let t = g.target;
-    let d = target::over_line(t, due(s), what, mem);
-    let u = d.target;
+fn one_shown(t: Target, c: TransportCall, what: Act, mem: &mut [u8]) -> Delivered {
+    let d = target_line::over_line(t, call_of(c), what, mem);
     let a = d.answer;
-    show_call(call);
+    show_call(c);
     show_answer(a);
-    let r = session::session_step(s, a, &mut none);
-    let s2 = r.session;
-    let reply = r.reply;
-    Going { session: s2, reply: reply, target: u }
+    d
 }
 
-fn show_end(e: CallEnding, s: Session) {
-    write(b"    result ");
-    show_ending(e);
-    write(b", session ");
-    show_open(s);
+// The transport call that is due.
+fn due_shown(t: Target, r: Reply, what: Act, mem: &mut [u8; 1024]) -> Delivered {
+    let next = r.next;
+    match next {
+        NextStep::Make(c) => one_shown(t, c, what, mem),
+        NextStep::Finish(_) => Delivered { target: t, answer: Answer::Other },
+    }
 }
 
-// To the call's end, at most 64 transport calls.
-fn walk(start: Going, lost: u32, mem: &mut [u8]) -> Going {
-    let mut g = start;
-    let mut n: u32 = 0;
-    while n < 64 {
-        n += 1;
-        let r = g.reply;
-        let next = r.next;
-        match next {
-            NextStep::Make(call) => {
-                g = one_shown(g, call, act(n, lost), mem);
-            }
-            NextStep::Finish(e) => {
-                show_end(e, g.session);
-                return g;
-            }
+// How many of `n` transport calls may be made: none where none is due.
+fn allowed(r: Reply, n: u32) -> u32
+    ensures { λ k. ⌜ k ≤ n ⌝ }
+{
+    let next = r.next;
+    match next {
+        NextStep::Make(_) => n,
+        NextStep::Finish(_) => 0,
+    }
+}
+
+fn show_end(r: Reply, open: bool) {
+    let next = r.next;
+    match next {
+        NextStep::Make(_) => write(b"    no end"),
+        NextStep::Finish(e) => {
+            write(b"    result ");
+            show_ending(e);
         }
     }
-    g
+    write(b", session ");
+    show_open(open);
 }
 
-// A call with every transport call shown.
-fn shown(b: Bench, c: SessionCall, lost: u32, mem: &mut [u8; 1024]) -> Bench {
+// A fresh session, which has nothing due.
+fn idle() -> SessionAnswer {
+    let none = CallEnding { number: 0, value: 0 };
+    SessionAnswer { session: session::fresh(), reply: Reply { next: NextStep::Finish(none), bytes: [0u8; 16] } }
+}
+
+// Start and step of a call that is lent no bytes.
+fn start(s: Session, c: SessionCall) -> SessionAnswer {
     let mut none = [0u8; 0];
-    let t = b.target;
-    let r = session::session_start(b.session, c, &mut none);
-    let s = r.session;
-    let reply = r.reply;
-    let g = walk(Going { session: s, reply: reply, target: t }, lost, mem);
-    let s2 = g.session;
-    let u = g.target;
-    Bench { session: s2, target: u }
+    session::session_start(s, c, &mut none)
+}
+
+fn step(s: Session, a: Answer) -> SessionAnswer {
+    let mut none = [0u8; 0];
+    session::session_step(s, a, &mut none)
 }
 
 fn put(mem: &mut [u8; 1024], i: usize, v: u8) {
     if i < 1024 {
         mem[i] = v;
+    }
+}
+
+// The story's calls, by how many follow: connect and read, and the same afresh.
+fn story_call(left: u32) -> SessionCall {
+    if left % 2 == 1 {
+        return SessionCall::ConnectSwd;
+    }
+    SessionCall::ReadWord(HOURS)
+}
+
+fn show_title(left: u32) {
+    match left {
+        3 => write(b"  connect\n"),
+        1 => write(b"  clip and connect afresh\n"),
+        _ => write(b"  read the hours word\n"),
+    }
+}
+
+// The first connect loses the answer of its ninth transport call.
+fn lost_in(left: u32) -> u32 {
+    if left == 3 {
+        return 9;
+    }
+    0
+}
+
+// Every transport call is shown, at most 64 of a call.
+fn tell(mem: &mut [u8; 1024]) {
+    let mut now = idle();
+    let mut t = controller();
+    let mut left: u32 = 4;
+    while 0 < left {
+        left -= 1;
+        show_title(left);
+        now = start(now.session, story_call(left));
+        let mut n: u32 = 0;
+        let mut may = allowed(now.reply, 64);
+        while 0 < may {
+            n = std::num::wrapping_add_u32(n, 1);
+            let d = due_shown(t, now.reply, act(n, lost_in(left)), mem);
+            t = d.target;
+            let a = d.answer;
+            now = step(now.session, a);
+            may = allowed(now.reply, may - 1);
+        }
+        show_end(now.reply, session::open(now.session));
     }
 }
 
@@ -182,15 +220,7 @@ fn accident() {
     put(&mut mem, 16, 0x39);
     put(&mut mem, 17, 0x30);
     write(b"the answer to the SELECT write is lost, though the controller did as told\n");
-    let b = Bench { session: session::fresh(), target: controller() };
-    write(b"  connect\n");
-    let b = shown(b, SessionCall::ConnectSwd, 9, &mut mem);
-    write(b"  read the hours word\n");
-    let b = shown(b, SessionCall::ReadWord(HOURS), 0, &mut mem);
-    write(b"  clip and connect afresh\n");
-    let b = shown(b, SessionCall::ConnectSwd, 0, &mut mem);
-    write(b"  read the hours word\n");
-    shown(b, SessionCall::ReadWord(HOURS), 0, &mut mem);
+    tell(&mut mem);
 }
 
 const ENOUGH: u32 = 200;
@@ -265,12 +295,24 @@ fn show_bytes(bytes: &[u8], n: usize) {
     }
 }
 
-// Runs a list over the controller and prints its results, whether the session is open, and the first bytes of its buffers.
-fn list(title: &[u8], items: &[u32; 44], acts: [u32; 96], shown: usize) {
+// What a list leaves: how many calls it had, and whether the session is open.
+pub struct Left {
+    pub calls: usize,
+    pub open: bool,
+}
+
+// Runs a list over the controller.
+fn run(items: &[u32], acts: &[u32], bytes: &mut [u8], results: &mut [u64]) -> Left {
     let mut mem = [0u8; 1024];
+    let r = session_run::run_list(session::fresh(), items, acts, controller(), &mut mem, bytes, results);
+    Left { calls: r.calls, open: session::open(r.session) }
+}
+
+// Prints the results of a list, whether the session is open, and the first bytes of its buffers.
+fn list(title: &[u8], items: &[u32; 44], acts: [u32; 96], shown: usize) {
     let mut bytes = [0x11u8, 0x22, 0x33, 0x44, 0x55, 0x66, 0x77, 0x88, 0, 0, 0, 0, 0, 0, 0, 0];
     let mut results = [0u64; 4];
-    let r = session_run::run_list(session::fresh(), items, &acts, controller(), &mut mem, &mut bytes, &mut results);
+    let r = run(items, &acts, &mut bytes, &mut results);
     write(title);
     write(b":");
     show_results(&results, r.calls);
@@ -279,7 +321,7 @@ fn list(title: &[u8], items: &[u32; 44], acts: [u32; 96], shown: usize) {
         show_bytes(&bytes, shown);
         write(b", ");
     }
-    show_open(r.session);
+    show_open(r.open);
 }
 
 fn refusals() {

@@ -10,7 +10,7 @@ use Rattle.target.specs.declared.ApRegister.{ApRegister}
 use Rattle.target.specs.declared.ApRegister.the-variants as A
 use Rattle.target.specs.Choice.{pick}
 use Rattle.target.specs.Fields.{withSticky, withRdbuff, withCsw, withTar}
-use Rattle.target.specs.Memory.{inMemory, load, store}
+use Rattle.target.specs.Memory.{inMemory, load, stored}
 use Rattle.target.specs.DebugPort.{done}
 
 -- the CSW that is kept: as written, with the size field, bits 2:0, at 2 for words
@@ -57,7 +57,7 @@ memoryAfter A.CswWrite t m w = m
 memoryAfter A.CswRead t m w = m
 memoryAfter A.TarWrite t m w = m
 memoryAfter A.TarRead t m w = m
-memoryAfter A.DrwWrite t m w = pick (inMemory t m (wordAddress t)) (store t m (wordAddress t) w) m
+memoryAfter A.DrwWrite t m w = stored t m (wordAddress t) w
 memoryAfter A.DrwRead t m w = m
 memoryAfter A.OtherRead t m w = m
 memoryAfter A.OtherWrite t m w = m

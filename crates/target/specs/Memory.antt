@@ -9,6 +9,8 @@ use lib.Dec.{leb, ltb}
 use Rattle.target.specs.declared.Target.{Target}
 use Rattle.target.specs.declared.Byte.{Byte}
 use Rattle.target.specs.declared.Byte.the-variants.{Value, Absent}
+use Rattle.target.specs.declared.Word.{Word}
+use Rattle.target.specs.declared.Word.the-variants as W
 use Rattle.target.specs.Choice.{pick}
 
 -- the byte at an address, or that there is none
@@ -35,3 +37,11 @@ load t m a = wordAt m (a - t .base)
 -- the memory with a word at such an address
 abbrev pub store : Target → List ℕ → ℕ → ℕ → List ℕ
 store t m a w = putWord m (a - t .base) w
+
+-- the word at any address, or that memory does not have all of it
+abbrev pub loaded : Target → List ℕ → ℕ → Word
+loaded t m a = pick (inMemory t m a) (W.Value (load t m a)) W.Absent
+
+-- the memory after a store at any address: as it was where it does not have the whole word
+abbrev pub stored : Target → List ℕ → ℕ → ℕ → List ℕ
+stored t m a w = pick (inMemory t m a) (store t m a w) m

@@ -17,7 +17,7 @@ use Rattle.target.specs.declared.Target.{Target}
 use Rattle.target.specs.declared.Act.{Act}
 use Rattle.engine.specs.State.{stateTree}
 use Rattle.engine.specs.Step.{nextOf, memoryIn, Waits, Steps}
-use Rattle.engine.specs.Along.{Along, along-none, along-more, play-flight}
+use Rattle.engine_run.specs.Along.{Along, along-none, along-more, play-flight}
 use Rattle.engine.specs.declared.State.{State}
 use Rattle.engine.specs.declared.NextStep.{NextStep}
 use Rattle.engine.specs.declared.NextStep.the-variants as N

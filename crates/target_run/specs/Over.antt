@@ -7,8 +7,8 @@ use Rattle.transport.specs.Wire.{Wire, play}
 use Rattle.transport.specs.declared.Answer.{Answer}
 use Rattle.transport.specs.declared.Answer.the-variants as A
 use Rattle.numbers.specs.Log.{answerOf}
-use Rattle.engine.specs.Run.{RanAs}
-use Rattle.engine.specs.declared.EngineCall.{EngineCall}
+use Rattle.engine_run.specs.Run.{RanAs}
+use Rattle.calls.specs.declared.EngineCall.{EngineCall}
 use Rattle.target_run.specs.Talk.{Talk}
 use Rattle.target_run.specs.declared.TargetRan.{TargetRan}
 

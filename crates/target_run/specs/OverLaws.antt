@@ -13,20 +13,20 @@ use Rattle.numbers.specs.Results.{endingOf}
 use Rattle.numbers.specs.declared.CallEnding.{CallEnding}
 use Rattle.numbers.specs.declared.TransportCall.{TransportCall}
 use Rattle.target.specs.declared.Target.{Target}
-use Rattle.engine.specs.Calls.{lent, pick, frameFor, leave}
+use Rattle.calls.specs.Calls.{lent, pick, frameFor, leave}
 use Rattle.engine.specs.State.{stateTree}
 use Rattle.engine.specs.Step.{nextOf, memoryIn, Steps, Lent}
-use Rattle.engine.specs.Run.{Reports, RanAs, own-ran, row-ran}
-use Rattle.engine.specs.Along.{Along, play-nil}
-use Rattle.engine.specs.Runs.{ended-at, spent-at}
-use Rattle.engine.specs.declared.EngineCall.{EngineCall}
-use Rattle.engine.specs.declared.EngineCall.the-variants as C
-use Rattle.engine.specs.declared.Frame.{Frame}
+use Rattle.engine_run.specs.Run.{Reports, RanAs}
+use Rattle.engine_run.specs.Along.{Along, play-nil}
+use Rattle.engine_run.specs.Runs.{ended-at, spent-at, own-ran, row-ran}
+use Rattle.calls.specs.declared.EngineCall.{EngineCall}
+use Rattle.calls.specs.declared.EngineCall.the-variants as C
+use Rattle.calls.specs.declared.Frame.{Frame}
 use Rattle.engine.specs.declared.State.{State}
 use Rattle.engine.specs.declared.NextStep.{NextStep}
 use Rattle.engine.specs.declared.NextStep.the-variants as N
 use Rattle.engine.specs.declared.StepAnswer.{StepAnswer}
-use Rattle.engine.specs.declared.Ran.{Ran}
+use Rattle.engine_run.specs.declared.Ran.{Ran}
 use Rattle.target_run.specs.Talk.{Talk, silent, talk, actOf}
 use Rattle.target_run.specs.Over.{noted, Legible, RanOver}
 use Rattle.target_run.specs.declared.TargetRan.{TargetRan}

@@ -16,7 +16,8 @@ use Rattle.transport.specs.declared.Transfer.{Transfer}
 use Rattle.target.specs.Line.{line}
 use Rattle.target.specs.declared.Target.{Target}
 use Rattle.target.specs.declared.Act.{Act}
-use Rattle.engine.specs.State.{stateTree, dueOf}
+use Rattle.transport.specs.Flight.{dueOf}
+use Rattle.engine.specs.State.{stateTree}
 use Rattle.engine.specs.declared.State.{State}
 use Rattle.target_run.specs.Talk.{Talk, silent, heardFirst, actNow, actsThen, talk, actOf}
 

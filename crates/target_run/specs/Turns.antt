@@ -14,7 +14,7 @@ use Rattle.target.specs.Line.{line, told}
 use Rattle.target.specs.declared.Target.{Target}
 use Rattle.target.specs.declared.Act.{Act}
 use Rattle.target.specs.declared.Delivered.{Delivered}
-use Rattle.engine.specs.Calls.{pick}
+use Rattle.calls.specs.Calls.{pick}
 use Rattle.engine.specs.State.{stateTree}
 use Rattle.engine.specs.Step.{Lent}
 use Rattle.engine.specs.declared.State.{State}

@@ -4,12 +4,14 @@ ghost use mathlib.Core.List.{map};
 ghost use Prim.Native.Nat.{_<_};
 ghost use lib.ListN.{set, getD};
 ghost use Rattle.numbers.specs.Log.{answerOf};
-ghost use Rattle.engine.specs.Calls.{callTree, rowFor, leave};
+ghost use Rattle.calls.specs.Calls.{callTree, rowFor, leave};
 ghost use Rattle.target_run.specs.Talk.{lossOf, actOf, talk};
 ghost use Rattle.target_run.specs.Over.{answerCode, RanOver};
 ghost use Rattle.target_run.specs.Turns.{Turns};
 ghost use Rattle.target_run.specs.OverLaws.{Drives};
-use engine::{EngineCall, Frame, NextStep, Ran, State, StepAnswer};
+use calls::{EngineCall, Frame};
+use engine::{NextStep, State, StepAnswer};
+use engine_run::Ran;
 use numbers::CallEnding;
 use target::{Act, Loss, Target};
 use transport::{Answer, Remembered};
@@ -80,12 +82,9 @@ fn hear(heard: &mut [u64], i: u32, a: Answer)
 fn turn(s: State, i: u32, act: Act, t: Target, mem: &mut [u8], row: &mut [u32; 64], words: &mut [u32], buf: &mut [u8], log: &mut [u64], heard: &mut [u64]) -> Turned
     ensures { λ x. ⌜ Turns s i act t (now (mem .entry)) (now (row .entry)) (now (words .entry)) (now (buf .entry)) (now (log .entry)) (now (heard .entry)) x (now (mem .exit)) (now (row .exit)) (now (words .exit)) (now (buf .exit)) (now (log .exit)) (now (heard .exit)) ⌝ }
 {
-    let st = s.started;
-    let l = st.launched;
-    let f = l.transfer;
-    let c = engine::due(f);
+    let c = transport::due(s.started.launched.transfer);
     numbers::note(log, i, c);
-    let d = target::over_line(t, c, act, mem);
+    let d = target_line::over_line(t, c, act, mem);
     let a = d.answer;
     let u = d.target;
     hear(heard, i, a);
@@ -127,7 +126,7 @@ fn drive(first: StepAnswer, budget: u32, acts: &[u32], before: Target, mem: &mut
 fn leave_frame(f: Frame, row: &[u32; 64], words: &mut [u32])
     ensures { λ _. ⌜ now (words .exit) ≡ leave f (now (row .entry)) (now (words .entry)) ⌝ }
 {
-    engine::keep_frame(f, row, words);
+    calls::keep_frame(f, row, words);
 }
 
 // A whole call over target and line under a budget. The line does as `acts` says, and delivers where they have ended. The log
@@ -135,8 +134,8 @@ fn leave_frame(f: Frame, row: &[u32; 64], words: &mut [u32])
 pub fn run(r: Remembered, c: EngineCall, budget: u32, acts: &[u32], t: Target, mem: &mut [u8], words: &mut [u32], buf: &mut [u8], log: &mut [u64], heard: &mut [u64]) -> TargetRan
     ensures { λ x. ⌜ RanOver c (callTree c r (rowFor c (now (words .entry))) (now (words .entry)) (now (buf .entry))) (talk (callTree c r (rowFor c (now (words .entry))) (now (words .entry)) (now (buf .entry))) budget (map actOf (now (acts .entry))) t (now (mem .entry))) x (now (words .entry)) (now (words .exit)) (now (buf .exit)) (now (log .entry)) (now (log .exit)) (now (heard .entry)) (now (heard .exit)) (now (mem .exit)) ⌝ }
 {
-    let f = engine::frame_for(c);
-    let mut row = engine::row_for(f, words);
+    let f = calls::frame_for(c);
+    let mut row = calls::row_for(f, words);
     let a = engine::start(r, c, &mut row, words, buf);
     let x = drive(a, budget, acts, t, mem, &mut row, words, buf, log, heard);
     leave_frame(f, &row, words);

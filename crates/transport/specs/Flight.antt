@@ -5,6 +5,7 @@ use native.Mathlib.Omega.{arith}
 use Rattle.transport.specs.Wire.{Wire, ask, Memory}
 use Rattle.transport.specs.Transfer.{clearStickyErrors, afterAnswer, tries, rawOutcome}
 use Rattle.transport.specs.declared.Call.{Call}
+use Rattle.transport.specs.declared.Call.the-variants as C
 use Rattle.transport.specs.declared.Outcome.{Outcome}
 use Rattle.transport.specs.declared.Transfer.{Transfer}
 use Rattle.transport.specs.declared.Mode.{Mode}
@@ -19,6 +20,12 @@ flight Raw m t k = ask m (t .call) (λ a. k (rawOutcome a))
 
 abbrev pub transferTree : Memory → Transfer → (Outcome → Wire) → Wire
 transferTree m t k = flight (t .mode) m t k
+
+-- the transport call that is due
+abbrev pub dueOf : Mode → Transfer → Call
+dueOf Trying t = t .call
+dueOf Aborting t = C.Transfer 0 0x1E
+dueOf Raw t = t .call
 
 abbrev pub wentTree : Memory → Went → (Outcome → Wire) → Wire
 wentTree m (Again t) k = transferTree m t k

@@ -9,7 +9,7 @@ ghost use Rattle.transport.specs.declared.Outcome.{Outcome};
 ghost use Rattle.transport.specs.Bytes.{patternBits, patternBytes, padded, handed};
 ghost use Rattle.transport.specs.Wire.{Wire, Memory, follow};
 ghost use Rattle.transport.specs.Transfer.{transfer, raw};
-ghost use Rattle.transport.specs.Flight.{transferTree, wentTree};
+ghost use Rattle.transport.specs.Flight.{transferTree, wentTree, dueOf};
 
 // What the engine remembers of the target. SELECT 0xFFFFFFFF means unknown.
 pub struct Remembered {
@@ -123,6 +123,19 @@ pub fn begin_raw(c: Call) -> Transfer
     ensures { λ r. ⌜ ((m : Memory) (k : Outcome → Wire) → raw m c k ≡ transferTree m r k) ⌝ }
 {
     Transfer { call: c, mode: Mode::Raw, left: 0, error: ArmError::Wait }
+}
+
+// The transport call that is due while a transfer is in flight: ABORT after an error.
+pub fn due(t: Transfer) -> Call
+    ensures { λ c. ⌜ c ≡ dueOf (t .mode) t ⌝ }
+{
+    let mode = t.mode;
+    let c = t.call;
+    match mode {
+        Mode::Trying => c,
+        Mode::Aborting => Call::Transfer { request: 0, word: 0x1E },
+        Mode::Raw => c,
+    }
 }
 
 // What a transport call in flight does with an answer.

@@ -1,17 +1,16 @@
--- An operation is begun as `op_start` ensures, and `go` has the rest. An end is the tree's own end, with nothing in flight.
+-- An operation is begun as `op_start` ensures, and `go` has the rest. An end is the tree's own end.
 use Rattle.jobs.specs.Asks.{exec-op}
 use Rattle.jobs.specs.Job.{exec}
-use mathlib.Core.Path.{refl}
 use borrow.Author.Needs.{needs}
 use Rattle.engine.proofs.begun.Statement.{statement}
 use Rattle.engine.proofs.begun.Tie as tie
 
 returns-2 : tie.Need-returns-2
 unfolding exec
-returns-2 c = λ ws b. simp (c .before .before .n2 .given .1) (record { tree = refl; todo = refl; whose = refl })
+returns-2 c = simp (c .before .before .n2 .given .1) (c .over .ensures)
 
 pub begun-spec : {M : Type 1} → statement M
 begun-spec =
     tie.close (tie.spec
     (λ c. search needs) (λ c κs. search needs) (λ c κs. search needs) (λ c. search needs) (λ c κs. search needs)
-    (λ c. λ ws b. simp (c .before .before .before .n .given .1) (simp (exec-op) (simp (c .before .op-start .ensures) (c .go .ensures ws b)))) returns-2)
+    (λ c. ((λ ws b. simp (c .before .before .before .n .given .1) (simp (exec-op) (simp (c .before .op-start .ensures) (c .go .ensures .0 ws b)))), c .go .ensures .1)) returns-2)

@@ -11,9 +11,24 @@ answered-spec =
     tie.close (tie.spec
     (λ c κs. search needs) (λ c. search needs) (λ c. search needs)
     (λ c. let e = c .before .before .before .before in
-      omega (arith, length-take ((length (e .args .input .now) - e .args .end) / 7) (c .before .zero-answers .result), c .before .zero-answers .ensures,
-        e .pre .0 .all, e .pre .0 .some, e .pre .1))
-    (λ c κs. let e = c .before .before .before .before .before in
-      (e .pre .0, e .pre .1, omega (arith, length-take ((length (e .args .input .now) - e .args .end) / 7) (c .before .before .zero-answers .result),
-        c .before .before .zero-answers .ensures, e .pre .0 .all, e .pre .0 .some, e .pre .1)))
+    omega (
+      arith,
+      length-take ((length (e .args .input .now) - e .args .end) / 7) (c .before .zero-answers .result),
+      c .before .zero-answers .ensures,
+      e .pre .0 .all,
+      e .pre .0 .some,
+      e .pre .1,
+    ))
+    (λ c κs. let e = c .before .before .before .before .before in (
+      e .pre .0,
+      e .pre .1,
+      omega (
+        arith,
+        length-take ((length (e .args .input .now) - e .args .end) / 7) (c .before .before .zero-answers .result),
+        c .before .before .zero-answers .ensures,
+        e .pre .0 .all,
+        e .pre .0 .some,
+        e .pre .1,
+      ),
+    ))
     (λ c. search needs) (λ c. search needs))

@@ -9,14 +9,14 @@ use Rattle.script.proofs.dapscript.Tie as tie
 
 returns : tie.Need-returns
 unfolding outputOf
-returns c = 
+returns c =
     let t = sym (c .before .before .before .before .before .well-formed .ensures) ∙ c .before .before .before .before .if1 .taken in
     let p = c .before .before .put-script .ensures in
     (simp t (omega (arith, p .0 .place)), simp t (p .0 .text), omega arith)
 
 returns-2 : tie.Need-returns-2
 unfolding outputOf
-returns-2 c = 
+returns-2 c =
     let t = sym (c .before .before .before .before .before .well-formed .ensures) ∙ c .before .before .before .before .if1 .left in
     let p = c .before .before .put-malformed .ensures in
     (simp t (omega (arith, p .0 .place)), simp t (p .0 .text), omega arith)

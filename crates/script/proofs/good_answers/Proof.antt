@@ -18,11 +18,14 @@ pub good-answers-spec : {M : Type 1} → statement M
 good-answers-spec = tie.close (tie.spec
     Inv-loop μ-loop (λ c. (refl, omega arith, omega arith)) (λ c κs. omega arith)
     (λ c. let d = c .before .before .before in
-      sym (d .loop .inv .0 ∙ good-more (d .before .before .args .input .now) (d .loop .left) (d .loop .at) (omega arith)
-        ∙ simp (sym (c .before .good-answer .ensures) ∙ not-true _ (c .if1 .taken))))
+    sym (d .loop .inv .0 ∙ good-more (d .before .before .args .input .now) (d .loop .left) (d .loop .at) (omega arith)
+    ∙ simp (sym (c .before .good-answer .ensures) ∙ not-true _ (c .if1 .taken))))
     (λ c. omega arith) (λ c. omega arith) (λ c. omega arith)
-    (λ c. let d = c .before .before .before in
-      (d .loop .inv .0 ∙ good-more (d .before .before .args .input .now) (d .loop .left) (d .loop .at) (omega arith) ∙ simp (sym (c .before .good-answer .ensures)
-        ∙ not-false _ (c .if1 .left)), omega arith, omega arith))
+    (λ c. let d = c .before .before .before in (
+      d .loop .inv .0 ∙ good-more (d .before .before .args .input .now) (d .loop .left) (d .loop .at) (omega arith) ∙ simp (sym (c .before .good-answer .ensures)
+          ∙ not-false _ (c .if1 .left)),
+      omega arith,
+      omega arith,
+    ))
     (λ c. let e : c .before .loop .left ≡ 0 = omega arith in
-      sym (c .before .loop .inv .0 ∙ rw e (good-none (c .before .before .before .args .input .now) (c .before .loop .at)))))
+    sym (c .before .loop .inv .0 ∙ rw e (good-none (c .before .before .before .args .input .now) (c .before .loop .at)))))

@@ -7,6 +7,11 @@ pub lend-spec : {M : Type 1} → statement M
 lend-spec =
     tie.close (tie.spec
     (λ c κs. search needs) (λ c κs. search needs) (λ c. search needs) (λ c. search needs) (λ c. search needs)
-    (λ c. (rw (c .before .before .before .before .before .before .before .before .before .before .before .before .before .before .fill .ensures .0,
-        c .before .before .before .before .before .before .before .before .before .before .before .before .before .before .fill .ensures .1) at
-        (c .before .before .before .before .before .before .perform .ensures .0), c .before .before .before .before .before .before .perform .ensures .1)))
+    (λ c. (
+      rw (
+        c .before .before .before .before .before .before .before .before .before .before .before .before .before .before .fill .ensures .0,
+        c .before .before .before .before .before .before .before .before .before .before .before .before .before .before .fill .ensures .1,
+      ) at
+          (c .before .before .before .before .before .before .perform .ensures .0),
+      c .before .before .before .before .before .before .perform .ensures .1,
+    )))

@@ -4,8 +4,8 @@ use mathlib.Core.Path.{_≡_, refl}
 use native.Mathlib.Omega.{arith}
 use borrow.Author.Needs.{needs}
 use lib.ListN.{length}
-use Rattle.script.specs.Puts.{Left}
-use Rattle.script.specs.BigEndian.{row}
+use Rattle.listing.specs.Puts.{Left}
+use Rattle.request.specs.BigEndian.{row}
 use Rattle.script.specs.Script.{answerAt}
 use Rattle.script.specs.Loads.{row-all, left-row, row-whole}
 use Rattle.script.proofs.load_answers.Statement.{statement}
@@ -22,13 +22,22 @@ abbrev μ-loop : tie.MeasureT-loop
 pub load-answers-spec : {M : Type 1} → statement M
 load-answers-spec = tie.close (tie.spec
     Inv-loop μ-loop
-    (λ c. (omega arith, omega arith, search needs, row-all (answerAt (c .before .before .args .input .now)) 7 (c .before .before .args .answers .now) (length
-        (c .before .before .args .answers .now)) (c .before .before .args .i)))
+    (λ c. (
+      omega arith,
+      omega arith,
+      search needs,
+      row-all (answerAt (c .before .before .args .input .now)) 7 (c .before .before .args .answers .now) (length
+          (c .before .before .args .answers .now)) (c .before .before .args .i),
+    ))
     (λ c κs. omega arith) (λ c. search needs) (λ c. omega arith) (λ c. omega arith) (λ c. omega arith) (λ c. omega arith)
-    (λ c. let d = c .before .before in
-      (omega arith, omega arith, search needs, rw (c .answer-at .ensures) (left-row (answerAt (d .before .before .before .args .input .now)) 7 (length
-        (d .before .before .before .args .answers .now)) (d .loop .j) (d .loop .at) (omega arith) (d .loop .inv .3))))
+    (λ c. let d = c .before .before in (
+      omega arith,
+      omega arith,
+      search needs,
+      rw (c .answer-at .ensures) (left-row (answerAt (d .before .before .before .args .input .now)) 7 (length
+          (d .before .before .before .args .answers .now)) (d .loop .j) (d .loop .at) (omega arith) (d .loop .inv .3)),
+    ))
     (λ c. search needs)
     (λ c. let d = c .before .before .before .before in
-      row-whole (answerAt (d .args .input .now)) 7 (length (d .args .answers .now)) (d .args .i) (c .before .loop .j) (c .before .loop .at) (omega arith) refl
-        (c .before .loop .inv .3)))
+    row-whole (answerAt (d .args .input .now)) 7 (length (d .args .answers .now)) (d .args .i) (c .before .loop .j) (c .before .loop .at) (omega arith) refl
+    (c .before .loop .inv .3)))

@@ -4,7 +4,7 @@ use mathlib.Core.Path.{_≡_}
 use native.Mathlib.Omega.{arith}
 use borrow.Author.Needs.{needs}
 use lib.ListN.{length, drop, length-drop}
-use Rattle.script.specs.Puts.{Left, left-all}
+use Rattle.listing.specs.Puts.{Left, left-all}
 use Rattle.script.specs.Loads.{left-rest, rest-whole}
 use Rattle.script.proofs.load_bytes.Statement.{statement}
 use Rattle.script.proofs.load_bytes.Tie as tie
@@ -22,4 +22,4 @@ load-bytes-spec = tie.close (tie.spec
     (λ c. let d = c .before .before in (omega arith, search needs, left-rest (d .before .args .a .now) (d .loop .j) (omega arith) (d .loop .inv .2)))
     (λ c. search needs)
     (λ c. let d = c .before .before in
-      rest-whole (d .args .a .now) (c .before .loop .j) (omega arith) (omega (arith, length-drop 4 (d .args .a .now))) (c .before .loop .inv .2)))
+    rest-whole (d .args .a .now) (c .before .loop .j) (omega arith) (omega (arith, length-drop 4 (d .args .a .now))) (c .before .loop .inv .2)))

@@ -6,7 +6,7 @@ use mathlib.Core.Path.{subst}
 use native.Mathlib.Omega.{arith}
 use borrow.Author.Needs.{needs}
 use lib.ListN.{length-take}
-use Rattle.script.specs.Puts.{Puts}
+use Rattle.listing.specs.Puts.{Puts}
 use Rattle.script.specs.Performing.{count-most, count-fits, performed-text}
 use Rattle.script.proofs.perform.Statement.{statement}
 use Rattle.script.proofs.perform.Tie as tie
@@ -14,27 +14,29 @@ use Rattle.script.proofs.perform.Tie as tie
 pub perform-spec : {M : Type 1} → statement M
 perform-spec =
     tie.close (tie.spec
-    (λ c κs. search needs) (λ c. search needs) (λ c. search needs) (λ c κs. search needs) (λ c. search needs)
+    (λ c κs. search needs)
+    (λ c. search needs)
+    (λ c. search needs)
+    (λ c κs. search needs)
+    (λ c. search needs)
     (λ c. let d = c .before .before .before .before .before .before .before .before in
-      let z = d .before .before .before .before in
-      let e = z .before .before .before .before .before in
-      count-fits (e .args .c) (e .args .b) (e .args .words .now) (e .args .buf .now) (e .args .answers .now) (d .run .ensures) (omega (arith, e .pre .0,
-        z .zero-answers .ensures)))
+    let e = d .before .before .before .before .before .before .before .before .before in
+    let z = d .before .before .before .before .zero-answers .ensures in
+    count-fits (e .args .c) (e .args .b) (e .args .words .now) (e .args .buf .now) (e .args .answers .now) (d .run .ensures) (omega (arith, e .pre .0, z)))
     (λ c. let d = c .before .before .before .before .before .before .before .before .before in
-      let z = d .before .before .before .before in
-      let e = z .before .before .before .before .before in
-      omega (arith, count-fits (e .args .c) (e .args .b) (e .args .words .now) (e .args .buf .now) (e .args .answers .now) (d .run .ensures) (omega (arith,
-        e .pre .0, z .zero-answers .ensures)), length-take (d .run .result .count) (d .run .last .1 .1 .1 .1 .1 .1 .0)))
-    (λ c κs. let d = c .before .before .before .before .before .before .before .before .before .before .before in
-      let z = d .before .before .before .before in
-      let e = z .before .before .before .before .before in
-      (omega (arith, count-most (e .args .c) (e .args .b) (e .args .words .now) (e .args .buf .now) (e .args .answers .now) (d .run .ensures) (omega (arith,
-        e .pre .0, z .zero-answers .ensures)), length-take (d .run .result .count) (d .run .last .1 .1 .1 .1 .1 .1 .0)), search needs, search needs))
-    (λ c. search needs) (λ c. search needs) (λ c. search needs)
-    (λ c. let d = c .before .before .before .before .before .before .before .before .before .before .before .before .before .before in
-      let z = d .before .before .before .before in
-      let e = z .before .before .before .before .before in
-      let p = c .before .before in
-      (subst (λ (t : List ℕ). Puts (e .args .out .now) 0 t (p .put-run .last .0) (p .put-run .result)) (performed-text (e .args .c) (e .args .b)
-        (e .args .words .now) (e .args .buf .now) (e .args .answers .now) (d .run .ensures) (omega (arith, e .pre .0,
-        z .zero-answers .ensures))) (p .put-run .ensures .0), p .put-run .ensures .1)))
+    let e = d .before .before .before .before .before .before .before .before .before in
+    let z = d .before .before .before .before .zero-answers .ensures in
+    omega (arith, count-fits (e .args .c) (e .args .b) (e .args .words .now) (e .args .buf .now) (e .args .answers .now) (d .run .ensures) (omega (arith, e .pre .0, z)), length-take (d .run .result .count) (d .run .last .1 .1 .1 .1 .1 .1 .0)))
+    (λ c κs. search needs)
+    (λ c κs. search needs)
+    (λ c. search needs)
+    (λ c. search needs)
+    (λ c. search needs)
+    (λ c. let d = c .before .before .before .before .before .before .before .before .before .before .before .before .before .before .before in
+    let e = d .before .before .before .before .before .before .before .before .before in
+    let z = d .before .before .before .before .zero-answers .ensures in
+    let p = c .before .before in (
+      subst (λ (t : List ℕ). Puts (e .args .out .now) 0 t (p .put-run .last .0) (p .put-run .result)) (performed-text (e .args .c) (e .args .b) (e .args .words .now) (e .args .buf .now) (e .args .answers .now) (d .run .ensures) (omega (arith, e .pre .0, z)) (omega (arith, d .run .kept .1 .1 .1 .1 .0, d .run .kept .1 .1 .1 .1 .1 .0, count-most (e .args .c) (e .args .b) (e .args .words .now) (e .args .buf .now) (e .args .answers .now) (d .run .ensures) (omega (arith, e .pre .0, z)), length-take (d .run .result .count) (d .run .last .1 .1 .1 .1 .1 .1 .0))))
+          (rw (c .before .before .before .before .before .shown-of .ensures) at (p .put-run .ensures .0)),
+      omega (arith, p .put-run .ensures .1, d .run .kept .1 .1 .1 .1 .0, d .run .kept .1 .1 .1 .1 .1 .0, count-most (e .args .c) (e .args .b) (e .args .words .now) (e .args .buf .now) (e .args .answers .now) (d .run .ensures) (omega (arith, e .pre .0, z)), length-take (d .run .result .count) (d .run .last .1 .1 .1 .1 .1 .1 .0)),
+    )))

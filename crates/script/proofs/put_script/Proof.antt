@@ -11,17 +11,17 @@ returns : tie.Need-returns
 unfolding requestText
 returns c =
     let r = script-request (c .before .before .before .before .before .before .before .before .before .before .before .before .args .input .now)
-        (c .before .before .before .before .before .before .before .before .before .half .ensures .0)
-        (c .before .before .before .before .before .before .before .before .byte .ensures .0) (c .before .before .before .before .before .before .request-of .ensures) in
+    (c .before .before .before .before .before .before .before .before .before .half .ensures)
+    (c .before .before .before .before .before .before .before .before .byte .ensures) (c .before .before .before .before .before .before .request-of .ensures) in
     (rw (sym r ∙ c .before .before .before .before .enum-told .given .1) (c .before .before .put-malformed .ensures .0), omega arith)
 
 returns-2 : tie.Need-returns-2
 unfolding requestText
 returns-2 c =
     let r = script-request (c .before .before .before .before .before .before .before .before .before .before .before .before .before .args .input .now)
-        (c .before .before .before .before .before .before .before .before .before .before .half .ensures .0)
-        (c .before .before .before .before .before .before .before .before .before .byte .ensures .0)
-        (c .before .before .before .before .before .before .before .request-of .ensures) in
+    (c .before .before .before .before .before .before .before .before .before .before .half .ensures)
+    (c .before .before .before .before .before .before .before .before .before .byte .ensures)
+    (c .before .before .before .before .before .before .before .request-of .ensures) in
     (rw (sym r ∙ c .before .before .before .before .before .request .given .1) (c .before .before .answered .ensures .0), omega arith)
 
 pub put-script-spec : {M : Type 1} → statement M

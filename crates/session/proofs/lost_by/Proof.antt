@@ -8,4 +8,4 @@ use Rattle.session.proofs.lost_by.Tie as tie
 pub lost-by-spec : {M : Type 1} → statement M
 lost-by-spec =
     tie.close (tie.spec (λ c κs. search needs)
-    (λ c. λ ws b. let t = c .before .before .before .before .args in c .loss-in .ensures ∙ lost-in (t .s) ws b (t .a)))
+    (λ c. λ ws b. let t = c .before .before .args in c .loss-in .ensures ∙ lost-in (t .s) ws b (t .a)))

@@ -9,6 +9,6 @@ use Rattle.session.proofs.moved.Tie as tie
 pub moved-spec : {M : Type 1} → statement M
 moved-spec =
     tie.close (tie.spec
-    (λ c κs. search needs) (λ c κs. search needs) (λ c κs. search needs) (λ c. search needs)
-    (λ c. let step = c .before .before .before in
-      answers-as _ _ _ _ _ _ _ _ _ refl (step .before .before .before .has-lost .ensures _ _) (c .settled .ensures _ _ (step .stepped .ensures))))
+    (λ c κs. search needs) (λ c. search needs) (λ c κs. search needs) (λ c κs. search needs) (λ c. search needs)
+    (λ c. let step = c .before .before .before .before in
+      answers-as _ _ _ _ _ _ _ _ _ refl (step .before .before .before .has-lost .ensures _ _) (c .settled .ensures _ _ (step .step-over .ensures .0))))

@@ -6,7 +6,7 @@ use lib.ListN.{length}
 use mathlib.Core.Path.{_≡_, refl, sym, ap, _∙_}
 use native.Mathlib.Omega.{arith}
 use Rattle.transport.specs.Wire.{Wire}
-use Rattle.engine.specs.Calls.{pick}
+use Rattle.calls.specs.Calls.{pick}
 use Rattle.target_run.specs.Talk.{Talk, actOf}
 use Rattle.target_run.specs.Comes.{Comes, comes-start}
 use Rattle.target_run.specs.Turns.{comes-turn, turned-other}

@@ -1,0 +1,239 @@
+// Copyright 2026 Kenta Ida
+// SPDX-License-Identifier: Apache-2.0
+// Ported from arm-debug/src/lib.rs of ciniml/rust-dap.
+
+// One enum of all 35 calls. What a call asks for first and after each operation, over the groups; which words it runs over,
+// and where its frame is.
+ghost use mathlib.Core.Path.{_≡_};
+ghost use lib.Seq.{sets};
+ghost use Rattle.jobs.specs.Asks.{asks};
+ghost use Rattle.calls_connect.specs.After.{connectAfter};
+ghost use Rattle.calls_memory.specs.After.{memoryAfter};
+ghost use Rattle.calls_core.specs.After.{coreAfter};
+ghost use Rattle.calls_fpb.specs.After.{fpbAfter};
+ghost use Rattle.calls_nrf.specs.After.{nrfAfter};
+ghost use Rattle.calls.specs.Calls.{jobOf, lentWords, lentFlash, lent, frameOf, coreFrame, frameFor, rowWith, leave};
+ghost use Rattle.calls.specs.After.{callAfter, asksJob};
+use calls_connect::{ConnectAsks, ConnectAt, ConnectCall};
+use calls_core::{CoreAsks, CoreAt, CoreCall};
+use calls_fpb::{FpbAsks, FpbAt, FpbCall};
+use calls_memory::{MemoryAsks, MemoryAt, MemoryCall};
+use calls_nrf::{NrfAsks, NrfAt, NrfCall};
+use jobs::{Change, Next};
+use transport::Outcome;
+
+// The calls and their arguments; words and bytes are those that the caller lends.
+pub enum EngineCall {
+    Connect(ConnectCall),
+    Memory(MemoryCall),
+    Core(CoreCall),
+    Fpb(FpbCall),
+    Nrf(NrfCall),
+}
+
+// Which operation of a call is in flight.
+pub enum At {
+    Connect(ConnectAt),
+    Memory(MemoryAt),
+    Core(CoreAt),
+    Fpb(FpbAt),
+    Nrf(NrfAt),
+}
+
+pub struct Asks {
+    pub change: Change,
+    pub at: At,
+    pub next: Next,
+}
+
+// What `run` does with the caller's first eight words: call 24 finds its frame there, call 23 leaves it there.
+pub enum Frame {
+    Nowhere,
+    Found,
+    Left,
+}
+
+// What a group asks for is what the call asks for.
+fn connect_asks(a: ConnectAsks) -> Asks
+    ensures { λ r. ⌜ asks (a .change) (a .next) (connectAfter (a .at)) ≡ asksJob r ⌝ }
+{
+    let change = a.change;
+    let at = a.at;
+    let next = a.next;
+    Asks { change: change, at: At::Connect(at), next: next }
+}
+
+fn memory_asks(a: MemoryAsks) -> Asks
+    ensures { λ r. ⌜ asks (a .change) (a .next) (memoryAfter (a .at)) ≡ asksJob r ⌝ }
+{
+    let change = a.change;
+    let at = a.at;
+    let next = a.next;
+    Asks { change: change, at: At::Memory(at), next: next }
+}
+
+fn core_asks(a: CoreAsks) -> Asks
+    ensures { λ r. ⌜ asks (a .change) (a .next) (coreAfter (a .at)) ≡ asksJob r ⌝ }
+{
+    let change = a.change;
+    let at = a.at;
+    let next = a.next;
+    Asks { change: change, at: At::Core(at), next: next }
+}
+
+fn fpb_asks(a: FpbAsks) -> Asks
+    ensures { λ r. ⌜ asks (a .change) (a .next) (fpbAfter (a .at)) ≡ asksJob r ⌝ }
+{
+    let change = a.change;
+    let at = a.at;
+    let next = a.next;
+    Asks { change: change, at: At::Fpb(at), next: next }
+}
+
+fn nrf_asks(a: NrfAsks) -> Asks
+    ensures { λ r. ⌜ asks (a .change) (a .next) (nrfAfter (a .at)) ≡ asksJob r ⌝ }
+{
+    let change = a.change;
+    let at = a.at;
+    let next = a.next;
+    Asks { change: change, at: At::Nrf(at), next: next }
+}
+
+// What a call does with the outcome of its operation.
+pub fn call_after(p: At, o: Outcome) -> Asks
+    ensures { λ r. ⌜ callAfter p o ≡ asksJob r ⌝ }
+{
+    match p {
+        At::Connect(q) => connect_asks(calls_connect::call_after(q, o)),
+        At::Memory(q) => memory_asks(calls_memory::call_after(q, o)),
+        At::Core(q) => core_asks(calls_core::call_after(q, o)),
+        At::Fpb(q) => fpb_asks(calls_fpb::call_after(q, o)),
+        At::Nrf(q) => nrf_asks(calls_nrf::call_after(q, o)),
+    }
+}
+
+// What a call asks for first.
+pub fn call_start(c: EngineCall, words: usize, bytes: usize) -> Asks
+    ensures { λ r. ⌜ jobOf c words bytes ≡ asksJob r ⌝ }
+{
+    match c {
+        EngineCall::Connect(q) => connect_asks(calls_connect::start(q)),
+        EngineCall::Memory(q) => memory_asks(calls_memory::start(q, words, bytes)),
+        EngineCall::Core(q) => core_asks(calls_core::start(q)),
+        EngineCall::Fpb(q) => fpb_asks(calls_fpb::start(q)),
+        EngineCall::Nrf(q) => nrf_asks(calls_nrf::start(q, words)),
+    }
+}
+
+// Whether a call runs over the caller's own words.
+fn owns_words(c: MemoryCall) -> bool
+    ensures { λ r. ⌜ r ≡ lentWords c ⌝ }
+{
+    match c {
+        MemoryCall::SetApsel(_) => false,
+        MemoryCall::ApRegRead(_) => false,
+        MemoryCall::ApRegWrite(_, _) => false,
+        MemoryCall::ReadWord(_) => false,
+        MemoryCall::WriteWord(_, _) => false,
+        MemoryCall::ReadWords(_) => true,
+        MemoryCall::WriteWords(_) => true,
+        MemoryCall::ReadMem(_) => false,
+        MemoryCall::WriteMem(_) => false,
+    }
+}
+
+fn owns_flash(c: NrfCall) -> bool
+    ensures { λ r. ⌜ r ≡ lentFlash c ⌝ }
+{
+    match c {
+        NrfCall::Nrf52ApprotectStatus => false,
+        NrfCall::Nrf52EraseAll(_) => false,
+        NrfCall::Nrf52ErasePage { .. } => false,
+        NrfCall::Nrf52Program { .. } => true,
+        NrfCall::Nrf54ApprotectStatus => false,
+        NrfCall::Nrf54EraseAll(_) => false,
+        NrfCall::Nrf54Program { .. } => true,
+    }
+}
+
+pub fn owns(c: EngineCall) -> bool
+    ensures { λ r. ⌜ r ≡ lent c ⌝ }
+{
+    match c {
+        EngineCall::Connect(_) => false,
+        EngineCall::Memory(q) => owns_words(q),
+        EngineCall::Core(_) => false,
+        EngineCall::Fpb(_) => false,
+        EngineCall::Nrf(q) => owns_flash(q),
+    }
+}
+
+fn core_frame(c: CoreCall) -> Frame
+    ensures { λ r. ⌜ r ≡ coreFrame c ⌝ }
+{
+    match c {
+        CoreCall::DebugEnable => Frame::Nowhere,
+        CoreCall::Halt => Frame::Nowhere,
+        CoreCall::Resume => Frame::Nowhere,
+        CoreCall::Step => Frame::Nowhere,
+        CoreCall::IsHalted => Frame::Nowhere,
+        CoreCall::ReadCoreReg(_) => Frame::Nowhere,
+        CoreCall::WriteCoreReg(_, _) => Frame::Nowhere,
+        CoreCall::RomFuncLookup(_, _) => Frame::Nowhere,
+        CoreCall::StartFunction(_) => Frame::Left,
+        CoreCall::FinishFunction(_) => Frame::Found,
+        CoreCall::CallFunction(_, _) => Frame::Nowhere,
+    }
+}
+
+pub fn frame_for(c: EngineCall) -> Frame
+    ensures { λ r. ⌜ r ≡ frameFor c ⌝ }
+{
+    match c {
+        EngineCall::Connect(_) => Frame::Nowhere,
+        EngineCall::Memory(_) => Frame::Nowhere,
+        EngineCall::Core(q) => core_frame(q),
+        EngineCall::Fpb(_) => Frame::Nowhere,
+        EngineCall::Nrf(_) => Frame::Nowhere,
+    }
+}
+
+// A frame from the first eight places of one list to those of another.
+pub fn copy_frame(from: &[u32], to: &mut [u32])
+    ensures { λ _. ⌜ now (to .exit) ≡ sets (now (to .entry)) 0 (frameOf (now (from .entry))) ⌝ }
+{
+    memap::place_word(to, 0, memap::word_at(from, 0));
+    memap::place_word(to, 1, memap::word_at(from, 1));
+    memap::place_word(to, 2, memap::word_at(from, 2));
+    memap::place_word(to, 3, memap::word_at(from, 3));
+    memap::place_word(to, 4, memap::word_at(from, 4));
+    memap::place_word(to, 5, memap::word_at(from, 5));
+    memap::place_word(to, 6, memap::word_at(from, 6));
+    memap::place_word(to, 7, memap::word_at(from, 7));
+}
+
+// The row that a call runs over: zeros, and the frame that it finds.
+pub fn row_for(f: Frame, words: &[u32]) -> [u32; 64]
+    ensures { λ r. ⌜ r ≡ rowWith f (now (words .entry)) ⌝ }
+{
+    match f {
+        Frame::Nowhere => [0u32; 64],
+        Frame::Found => {
+            let mut row = [0u32; 64];
+            copy_frame(words, &mut row);
+            row
+        }
+        Frame::Left => [0u32; 64],
+    }
+}
+
+// The frame that a call leaves goes to the caller's words.
+pub fn keep_frame(f: Frame, row: &[u32], words: &mut [u32])
+    ensures { λ _. ⌜ now (words .exit) ≡ leave f (now (row .entry)) (now (words .entry)) ⌝ }
+{
+    match f {
+        Frame::Nowhere => {}
+        Frame::Found => {}
+        Frame::Left => copy_frame(row, words),
+    }
+}

@@ -1,0 +1,13 @@
+-- Each arm is its row of the table; a number of no arm is in no row.
+use borrow.Author.Needs.{needs}
+use borrow.Author.Tests.{ne-eqb}
+use Rattle.session_items.proofs.fpb_at.Statement.{statement}
+use Rattle.session_items.proofs.fpb_at.Tie as tie
+
+pub fpb-at-spec : {M : Type 1} → statement M
+fpb-at-spec =
+    tie.close (tie.spec
+    (λ c κs. search needs) (λ c κs. search needs) (λ c κs. search needs)
+    (λ c. rw (c .before .match .keys1, c .arg-at .ensures)) (λ c. rw (c .before .match .keys2, c .arg-at2 .ensures))
+    (λ c. rw (c .before .match .keys3, c .arg-at3 .ensures))
+    (λ c. let m = c .match .rest in simp (ne-eqb _ _ (m .0 .0 .1), ne-eqb _ _ (m .0 .1), ne-eqb _ _ (m .1))))

@@ -1,0 +1,10 @@
+-- Inside the list the read is `getD`. Outside it both are 0.
+use lib.ListN.{List·getD-eq-default}
+use mathlib.Core.Path.{sym}
+use borrow.Author.Needs.{needs}
+use Rattle.session_items.proofs.word_at.Statement.{statement}
+use Rattle.session_items.proofs.word_at.Tie as tie
+
+pub word-at-spec : {M : Type 1} → statement M
+word-at-spec = tie.close (tie.spec
+    (λ c. search needs) (λ c. search needs) (λ c. search needs) (λ c. sym (List·getD-eq-default (c .before .args .ws .now) 0 (c .if1 .left))))

@@ -1,0 +1,13 @@
+use borrow.Author.Needs.{needs}
+use Rattle.session_phase.proofs.phase_ended.Statement.{statement}
+use Rattle.session_phase.proofs.phase_ended.Tie as tie
+
+pub phase-ended-spec : {M : Type 1} → statement M
+phase-ended-spec =
+    tie.close (tie.spec
+    (λ c. simp (c .if1 .taken))
+    (λ c. simp (c .before .if1 .left) (simp (c .if2 .taken)))
+    (λ c. search needs) (λ c. search needs) (λ c. search needs)
+    (λ c. simp (c .before .before .before .if1 .left) (simp (c .before .before .if2 .left) (simp (c .enum-told .given .1))))
+    (λ c. simp (c .before .before .before .if1 .left) (simp (c .before .before .if2 .left) (simp (c .enum-told2 .given .1))))
+    (λ c. simp (c .before .before .before .if1 .left) (simp (c .before .before .if2 .left) (simp (c .enum-told3 .given .1)))))

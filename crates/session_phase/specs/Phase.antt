@@ -1,0 +1,59 @@
+-- When a session is open (01: "The session"; believed). It closes after a call in which a transport call failed other than by WAIT or
+-- FAULT, the ignored ABORT aside; after Spent; and after a connect that failed. Nothing else closes it.
+use mathlib.Core.Bool.{Bool, true, false, not, _&&_, _||_}
+use lib.Dec.{eqb}
+use Rattle.transport.specs.Wire.{Ending, ended, spent}
+use Rattle.transport.specs.declared.Answer.{Answer}
+use Rattle.transport.specs.declared.Answer.the-variants.{Good, SwdError, NotSupported, Other}
+use Rattle.transport.specs.declared.Outcome.{Outcome}
+use Rattle.transport.specs.declared.Outcome.the-variants.{Value, Failed}
+use Rattle.transport.specs.declared.Remembered.{Remembered}
+use Rattle.jobs.specs.Change.{forgotten}
+use Rattle.session_phase.specs.declared.Kind.{Kind}
+use Rattle.session_phase.specs.declared.Kind.the-variants as K
+use Rattle.session_phase.specs.declared.Phase.{Phase}
+use Rattle.session_phase.specs.declared.Phase.the-variants as P
+
+-- an answer that is neither Ok nor WAIT nor FAULT: nobody knows what became of the transport call
+abbrev pub loss : Answer → Bool
+loss (Good v) = false
+loss (SwdError ack) = not (eqb ack 2 || eqb ack 4)
+loss NotSupported = true
+loss Other = true
+
+-- each connect starts with SELECT and CSW unknown
+abbrev pub rememberedFor : Bool → Remembered → Remembered
+rememberedFor true r = forgotten r
+rememberedFor false r = r
+
+abbrev pub succeeds : Ending → Bool
+succeeds (ended (Value v)) = true
+succeeds (ended (Failed e)) = false
+succeeds spent = false
+
+abbrev pub finishes : Ending → Bool
+finishes (ended o) = true
+finishes spent = false
+
+-- whether the session is open after a call that was not refused: one without a loss that was brought to its end, a connect only if
+-- it succeeded
+abbrev pub opensAfter : (connect lost : Bool) → Ending → Bool
+opensAfter connect lost e = not lost && (finishes e && (succeeds e || not connect))
+
+-- the phase that the code keeps, in which a call under way counts as closed
+abbrev pub isOpen : Phase → Bool
+isOpen P.Closed = false
+isOpen P.Open = true
+isOpen (P.Running kind lost) = false
+
+abbrev pub phaseOf : Bool → Phase
+phaseOf true = P.Open
+phaseOf false = P.Closed
+
+abbrev pub connects : Kind → Bool
+connects K.Connect = true
+connects K.Frame = false
+connects K.Plain = false
+
+abbrev pub phaseAfter : Kind → Bool → Outcome → Phase
+phaseAfter kind lost o = phaseOf (opensAfter (connects kind) lost (ended o))

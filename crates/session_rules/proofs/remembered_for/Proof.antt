@@ -1,8 +1,0 @@
-use borrow.Author.Needs.{needs}
-use Rattle.session_rules.proofs.remembered_for.Statement.{statement}
-use Rattle.session_rules.proofs.remembered_for.Tie as tie
-
-pub remembered-for-spec : {M : Type 1} → statement M
-remembered-for-spec =
-    tie.close (tie.spec
-    (λ c. simp (c .if1 .taken)) (λ c. search needs))
