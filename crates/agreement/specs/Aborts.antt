@@ -15,7 +15,8 @@ use Rattle.transport.specs.declared.Outcome.{Outcome}
 use Rattle.transport.specs.declared.Outcome.the-variants.{Value, Failed}
 use Rattle.transport.specs.declared.Remembered.{Remembered}
 use Rattle.memap.specs.Action.{Then, Action, _>>=_, _>>_, return, cond, transferring, remember, onValue}
-use Rattle.memap.specs.Ports.{SELECT, RDBUFF, CSW, TAR, DRW, CSW-DEFAULT, a32, dpRead, dpWrite, selectOf, selected, selectApBank, apAccess, apWrite, apRead, cswKnown, ensureCsw}
+use Rattle.memap.specs.Ports.{SELECT, RDBUFF, CSW, TAR, DRW, CSW-DEFAULT, a32, dpRead, dpWrite, selectOf, selected, selectApBank, apAccess, apWrite,
+    apRead, cswKnown, ensureCsw}
 use Rattle.memap.specs.Words.{flush, place, pull, push, pushAll, rowAt}
 use Rattle.memap.specs.Ops.{perform}
 use Rattle.memap.specs.declared.Op.{Op}
@@ -144,11 +145,13 @@ push-fine : (last more : ℕ) → Fine (push last more)
 unfolding push
 push-fine last zero = flush-fine
 push-fine last (suc more) =
-    λ k g m. then-fine (transferring 0xD (rowAt (last - more) m)) (push last more) (transferring-fine 0xD (rowAt (last - more) m)) (push-fine last more) k g m
+    λ k g m. then-fine (transferring 0xD (rowAt (last - more) m)) (push last more) (transferring-fine 0xD (rowAt (last - more) m))
+        (push-fine last more) k g m
 
 -- behind CSW and TAR
 behind : (addr : ℕ) (p : Action) → Fine p → Fine (ensureCsw CSW-DEFAULT >> (apWrite TAR addr >> p))
-behind addr p h = then-fine (ensureCsw CSW-DEFAULT) (apWrite TAR addr >> p) (csw-fine CSW-DEFAULT) (then-fine (apWrite TAR addr) p (write-fine TAR addr) h)
+behind addr p h = then-fine (ensureCsw CSW-DEFAULT) (apWrite TAR addr >> p) (csw-fine CSW-DEFAULT) (then-fine (apWrite TAR addr) p
+    (write-fine TAR addr) h)
 
 -- an operation whose raw call is no transfer
 abbrev pub NoRaw : Op → Type 0
@@ -178,5 +181,6 @@ op-fine (O.WriteWords addr n last) h = behind addr (pushAll last n) first
   where
     first : Fine (pushAll last n)
     first k g m =
-        then-fine (apAccess 0xD DRW (rowAt (last - (n - 1)) m)) (push last (n - 1)) (access-fine 0xD DRW (rowAt (last - (n - 1)) m)) (push-fine last (n - 1)) k g m
+        then-fine (apAccess 0xD DRW (rowAt (last - (n - 1)) m)) (push last (n - 1)) (access-fine 0xD DRW (rowAt (last - (n - 1)) m)) (push-fine last
+            (n - 1)) k g m
 op-fine (O.Other c) h = raw-fine c h

@@ -8,23 +8,23 @@ use Rattle.transport.specs.declared.ArmError.the-variants as E
 use Rattle.transport.specs.declared.Outcome.{Outcome}
 use Rattle.jobs.specs.Job.{Job, ends, return, fail}
 use Rattle.jobs.specs.declared.Change.the-variants as C
-use Rattle.calls_connect.specs.Connect.{connectJob, accepted, setUp, noTarget, bothAcks, pollAcks}
-use Rattle.calls_connect.specs.declared.ConnectCall.the-variants as N
-use Rattle.calls_memory.specs.Memory.{memoryJob, memFrom, turn, moveRun, moveBytes, runWords}
-use Rattle.calls_core.specs.Cortex.{R0, S-REGRDY, S-HALT, stands}
-use Rattle.calls_core.specs.Core.{POLLS, waitStatus, readCoreReg, storeCoreReg}
-use Rattle.calls_core.specs.Function.{coreJob, ENTRIES, NOT-FOUND, readEntry, lookFrom, clobbered, saveRegs, writeRegs, writeRowReg}
-use Rattle.calls_core.specs.Function.{lookRunning, startFunction, afterWait, finishFunction}
-use Rattle.calls_core.specs.declared.Function.{Function}
-use Rattle.calls_core.specs.declared.CoreCall.{CoreCall}
-use Rattle.calls_core.specs.declared.CoreCall.the-variants as K
-use Rattle.calls_fpb.specs.Breakpoint.{fpbJob, yes, no, numCode, revision, fpbCompValue, breakable, firstFree, takeFree, seek, find, lookUp, clear}
-use Rattle.calls_fpb.specs.declared.CompValue.{CompValue}
-use Rattle.calls_fpb.specs.declared.CompValue.the-variants as P
-use Rattle.calls_fpb.specs.declared.Free.{Free}
-use Rattle.calls_fpb.specs.declared.Free.the-variants as F
-use Rattle.calls_fpb.specs.declared.FpbCall.{FpbCall}
-use Rattle.calls_fpb.specs.declared.FpbCall.the-variants as B
+use Rattle.connect.specs.Connect.{connectJob, accepted, setUp, noTarget, bothAcks, pollAcks}
+use Rattle.connect.specs.declared.ConnectCall.the-variants as N
+use Rattle.memory.specs.Memory.{memoryJob, memFrom, turn, moveRun, moveBytes, runWords}
+use Rattle.core.specs.Cortex.{R0, S-REGRDY, S-HALT, stands}
+use Rattle.core.specs.Core.{POLLS, waitStatus, readCoreReg, storeCoreReg}
+use Rattle.core.specs.Function.{coreJob, ENTRIES, NOT-FOUND, readEntry, lookFrom, clobbered, saveRegs, writeRegs, writeRowReg}
+use Rattle.core.specs.Function.{lookRunning, startFunction, afterWait, finishFunction}
+use Rattle.core.specs.declared.Function.{Function}
+use Rattle.core.specs.declared.CoreCall.{CoreCall}
+use Rattle.core.specs.declared.CoreCall.the-variants as K
+use Rattle.fpb.specs.Breakpoint.{fpbJob, yes, no, numCode, revision, fpbCompValue, breakable, firstFree, takeFree, seek, find, lookUp, clear}
+use Rattle.fpb.specs.declared.CompValue.{CompValue}
+use Rattle.fpb.specs.declared.CompValue.the-variants as P
+use Rattle.fpb.specs.declared.Free.{Free}
+use Rattle.fpb.specs.declared.Free.the-variants as F
+use Rattle.fpb.specs.declared.FpbCall.{FpbCall}
+use Rattle.fpb.specs.declared.FpbCall.the-variants as B
 use Rattle.calls.specs.Calls.{jobOf}
 use Rattle.session_rules.specs.Admits.{engineCall}
 use Rattle.session_rules.specs.declared.SessionCall.{SessionCall}

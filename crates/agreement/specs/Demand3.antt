@@ -209,5 +209,6 @@ standingAfter s (x ∷ xs) = standingAfter (called s (x .call) (x .buf) (x .answ
 unfoldable pub openTold : Bool → Standing → List Told → Bool
 openTold was s [] = was
 openTold was s (x ∷ xs) =
-    openTold (openNext was (x .call) (called s (x .call) (x .buf) (x .answers) .calls) (x .answers) (called s (x .call) (x .buf) (x .answers) .ending))
+    openTold (openNext was (x .call) (called s (x .call) (x .buf) (x .answers) .calls) (x .answers) (called s (x .call) (x .buf)
+        (x .answers) .ending))
     (called s (x .call) (x .buf) (x .answers) .after) xs

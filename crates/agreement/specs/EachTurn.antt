@@ -6,8 +6,8 @@ use native.Mathlib.Nat.{sub-zero}
 use native.Mathlib.Decide.{decLt, ℕ-discrete}
 use native.Mathlib.Omega.{arith}
 use Rattle.jobs.specs.Job.{Job, return}
-use Rattle.calls_memory.specs.Memory.{memFrom, moveRun, moveBytes, runWords}
-use Rattle.calls_memory.specs.Turns.{turn-run, turn-ragged, turn-short}
+use Rattle.memory.specs.Memory.{memFrom, moveRun, moveBytes, runWords}
+use Rattle.memory.specs.Turns.{turn-run, turn-ragged, turn-short}
 
 -- Leads j k: from where k bytes are moved, the job j does as is claimed
 pub record EachTurn (read : Bool) (addr len : ℕ) (Leads : Job → ℕ → Type 0) : Type 0 where

@@ -14,7 +14,7 @@ use Rattle.transport.specs.declared.Outcome.the-variants.{Value, Failed}
 use Rattle.transport.specs.declared.ArmError.{ArmError}
 use Rattle.transport.specs.declared.ArmError.the-variants as E
 use Rattle.memap.specs.Flight.{memoryOf}
-use Rattle.calls_memory.specs.Memory.{memFrom, mem, memoryJob}
+use Rattle.memory.specs.Memory.{memFrom, mem, memoryJob}
 use Rattle.jobs.specs.Job.{Job, exec}
 use Rattle.target.specs.declared.Target.{Target}
 use Rattle.target.specs.declared.Byte.the-variants as B
@@ -38,7 +38,8 @@ use Rattle.agreement.specs.WriteTurns.{Partly, WriteSpent, WriteEnds, wr
 use Rattle.agreement.specs.OneWord.{WordEnds, word-read, word-written}
 
 -- refused: nothing changed, no success
-refused-reads : (e : ArmError) (x : Moment) (i : Item) (acts : List Act) (addr n : ℕ) (given : List ℕ) → Reads (madeIf (Refuse e) x i acts) addr n given
+refused-reads : (e : ArmError) (x : Moment) (i : Item) (acts : List Act) (addr n : ℕ) (given : List ℕ)
+    → Reads (madeIf (Refuse e) x i acts) addr n given
 refused-reads e x i acts addr n given = record { same = λ a. refl; whole = λ h. absurd (false≢true h); gives = λ h. absurd (false≢true h) }
 
 refused-writes : (e : ArmError) (x : Moment) (i : Item) (acts : List Act) (addr : ℕ) (new : List ℕ) → Writes (madeIf (Refuse e) x i acts) addr new
@@ -73,7 +74,8 @@ module _ (base : ℕ) (mem₀ : List ℕ) (addr : ℕ) (m : Memory) (t : Target)
     gives : succeeds e ≡ true → (i : ℕ) → i < length given → byteIn base mem₀ (addr + i) ≡ B.Value (getD given i 0)
 
   word-off : Bytes mem₀ → (e : Ending) → Holds (WordEnds base mem₀ addr) (ReadSpent base mem₀) e m t mem b → ReadOff 4 e (valueBytes e)
-  word-off bytes (ended (Value v)) h = record { start = h .0 .0; same = h .0 .1; whole = λ s. refl; gives = λ s. held-byte base mem₀ bytes addr v (h .1) }
+  word-off bytes (ended (Value v)) h = record { start = h .0 .0; same = h .0 .1; whole = λ s. refl; gives = λ s. held-byte base mem₀ bytes addr v
+    (h .1) }
   word-off bytes (ended (Failed e)) h = record { start = h .0; same = h .1; whole = λ s. absurd (false≢true s); gives = λ s. absurd (false≢true s) }
   word-off bytes spent h = record { start = h .0; same = h .1; whole = λ s. absurd (false≢true s); gives = λ s. absurd (false≢true s) }
 

@@ -54,7 +54,8 @@ unfolding exec Shaped Sound
 job-shaped (ends o) s h m = tt
 job-shaped (op w good bad) s h m =
     op-fine w (no-raw w s (h .0)) (either (λ v. exec (good v)) (λ e. exec (bad e)))
-    (either-shaped (λ v. exec (good v)) (λ e. exec (bad e)) (λ v. job-shaped (good v) (next (effect w) s) (h .1 v)) (λ e. job-shaped (bad e) any (h .2 e))) m
+    (either-shaped (λ v. exec (good v)) (λ e. exec (bad e)) (λ v. job-shaped (good v) (next (effect w) s) (h .1 v)) (λ e. job-shaped (bad e) any
+      (h .2 e))) m
 job-shaped (keep c j) s h m = job-shaped j (next (effectOf c) s) (h .1) (changed c m)
 
 shaped : (s : Standing) (c : SessionCall) (buf : List ℕ) → Shaped false (sessionTree s c buf)
@@ -83,7 +84,8 @@ connect-passes true n = refl
 connect-passes false n = refl
 
 refused-other : (was : Bool) (c : SessionCall) (n : ℕ) (e : ArmError) → refusal was c n ≡ Refuse e → isConnect c ≡ false
-refused-other was S.ConnectSwd n e h = let z : Pass ≡ Refuse e = sym (connect-passes was n) ∙ h in let y : _≡_ {A = ℕ} 0 1 = cc in absurd (omega arith)
+refused-other was S.ConnectSwd n e h = let z : Pass ≡ Refuse e = sym (connect-passes was n)
+    ∙ h in let y : _≡_ {A = ℕ} 0 1 = cc in absurd (omega arith)
 refused-other was (S.ReadWord addr) n e h = refl
 refused-other was (S.WriteWord addr word) n e h = refl
 refused-other was (S.ReadMem addr) n e h = refl
@@ -102,7 +104,8 @@ open-next s c buf answers = go (refusal (s .isOpen) c (length buf)) refl
       ≡ openNext (s .isOpen) c (checked k s c buf answers .calls) answers (checked k s c buf answers .ending)
     go Pass h =
         rw (lost-among false (sessionTree s c buf) answers (shaped s c buf))
-        (same-rule (lossAmong false (play (sessionTree s c buf) answers .calls) answers) (isConnect c) (s .isOpen) (play (sessionTree s c buf) answers .ending)
+        (same-rule (lossAmong false (play (sessionTree s c buf) answers .calls) answers) (isConnect c) (s .isOpen) (play
+          (sessionTree s c buf) answers .ending)
         (admitted-open (s .isOpen) c (length buf) h))
     go (Refuse e) h = rw (refused-other (s .isOpen) c (length buf) e h)
 

@@ -11,7 +11,7 @@ use Rattle.memap.specs.Ops.{perform}
 use Rattle.jobs.specs.Change.{changed}
 use Rattle.jobs.specs.declared.Change.the-variants as C
 use Rattle.jobs.specs.Job.{Job, exec, return}
-use Rattle.calls_memory.specs.Memory.{memFrom, moveRun, moveBytes}
+use Rattle.memory.specs.Memory.{memFrom, moveRun, moveBytes}
 use Rattle.target.specs.declared.Target.{Target}
 use Rattle.agreement.specs.Demand3.{Bytes}
 use Rattle.agreement.specs.Safe.{Stand, Post, Safe}

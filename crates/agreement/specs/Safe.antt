@@ -25,7 +25,8 @@ unfoldable pub Safe : Post → Stand → Wire → Target → List ℕ → Bool �
 Safe Q S (done m o) t mem b = Q o m t mem b
 Safe Q S (ask m c f) t mem b =
     S m t mem b
-    × ((act : Act) → Safe Q S (f (line t mem c act .answer)) (line t mem c act .target) (line t mem c act .mem) (b || loss (line t mem c act .answer)))
+    × ((act : Act) → Safe Q S (f (line t mem c act .answer)) (line t mem c act .target) (line t mem c act .mem) (b || loss
+      (line t mem c act .answer)))
 Safe Q S (tell m c w) t mem b =
     S m t mem b × ((act : Act) → Safe Q S w (line t mem c act .target) (line t mem c act .mem) b)
 

@@ -8,7 +8,8 @@ use Rattle.target.specs.WellFormed.{WellFormed}
 use Rattle.target.specs.declared.Target.{Target}
 use Rattle.target.specs.declared.Act.{Act}
 use Rattle.session_rules.specs.Session.{closed}
-use Rattle.agreement.specs.Demand3.{Told, standingAfter, openTold, Item, Bytes, Buffers, Moment, first, Made, made, history, lastOf, openNext, openAfter, MemoryKept, Each, none, and, InStep}
+use Rattle.agreement.specs.Demand3.{Told, standingAfter, openTold, Item, Bytes, Buffers, Moment, first, Made, made, history, lastOf, openNext,
+    openAfter, MemoryKept, Each, none, and, InStep}
 use Rattle.agreement.specs.Kept.{Kept}
 use Rattle.agreement.specs.Keep.{keeps}
 use Rattle.agreement.specs.Memory.{memory-kept}
@@ -30,7 +31,8 @@ unfolding history
 last-kept x [] acts k = k
 last-kept x (i ∷ items) acts k = last-kept (made x i acts .after) items (drop (length (made x i acts .answers)) acts) (keeps x i acts k)
 
-last-open : (x : Moment) (items : List Item) (acts : List Act) → lastOf x (history x items acts) .standing .isOpen ≡ openAfter (x .standing .isOpen) (history x items acts)
+last-open : (x : Moment) (items : List Item) (acts : List Act) → lastOf x (history x items acts) .standing .isOpen ≡ openAfter (x .standing .isOpen)
+    (history x items acts)
 unfolding history openAfter
 last-open x [] acts = refl
 last-open x (i ∷ items) acts =

@@ -13,7 +13,7 @@ use Rattle.jobs.specs.Bytes.{leWord, loadWords, patchWord}
 use Rattle.jobs.specs.Job.{Job, exec, return, keep, just, _>>_}
 use Rattle.jobs.specs.declared.Change.the-variants as C
 use Rattle.memap.specs.declared.Op.the-variants as O
-use Rattle.calls_memory.specs.Memory.{memFrom, moveRun, moveBytes}
+use Rattle.memory.specs.Memory.{memFrom, moveRun, moveBytes}
 use Rattle.target.specs.Memory.{putWord}
 use Rattle.target.specs.declared.Target.{Target}
 use Rattle.agreement.specs.Demand3.{Bytes}

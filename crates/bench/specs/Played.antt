@@ -4,7 +4,7 @@ use mathlib.Core.List.{List}
 use mathlib.Core.Path.{_≡_}
 use lib.ListN.{length, replicate}
 use Rattle.transport.specs.Wire.{play, Played}
-use Rattle.calls_core.specs.declared.Function.{Function}
+use Rattle.core.specs.declared.Function.{Function}
 use Rattle.jobs.specs.Change.{fresh}
 use Rattle.calls.specs.Calls.{callTree, rowFor}
 use Rattle.engine_run.specs.Run.{within, logged}

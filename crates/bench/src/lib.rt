@@ -1,17 +1,17 @@
 // The engine's calls for a benchmark in another language: each runs one call on a new engine over answers that are given
 // as numbers, and says how many transport calls it made.
 ghost use mathlib.Core.Path.{_≡_};
-ghost use Rattle.calls_connect.specs.declared.ConnectCall.the-variants.{ConnectSwd};
-ghost use Rattle.calls_core.specs.declared.CoreCall.the-variants.{CallFunction};
-ghost use Rattle.calls_fpb.specs.declared.FpbCall.the-variants.{HwBreakpointSet};
-ghost use Rattle.calls_memory.specs.declared.MemoryCall.the-variants.{ReadMem, WriteMem, ReadWord};
+ghost use Rattle.connect.specs.declared.ConnectCall.the-variants.{ConnectSwd};
+ghost use Rattle.core.specs.declared.CoreCall.the-variants.{CallFunction};
+ghost use Rattle.fpb.specs.declared.FpbCall.the-variants.{HwBreakpointSet};
+ghost use Rattle.memory.specs.declared.MemoryCall.the-variants.{ReadMem, WriteMem, ReadWord};
 ghost use Rattle.calls.specs.declared.EngineCall.the-variants.{Connect, Memory, Core, Fpb};
 ghost use Rattle.bench.specs.Played.{Counted, called};
-use calls_connect::ConnectCall;
-use calls_core::{CoreCall, Function};
-use calls_fpb::FpbCall;
-use calls_memory::MemoryCall;
 use calls::EngineCall;
+use connect::ConnectCall;
+use core::{CoreCall, Function};
+use fpb::FpbCall;
+use memory::MemoryCall;
 use transport::Remembered;
 
 fn count(c: EngineCall, budget: u32, answers: &[u64], buf: &mut [u8], log: &mut [u64]) -> u32

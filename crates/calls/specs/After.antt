@@ -5,11 +5,11 @@ use Rattle.transport.specs.declared.Outcome.{Outcome}
 use Rattle.jobs.specs.Change.{changed}
 use Rattle.jobs.specs.Job.{Job, exec}
 use Rattle.jobs.specs.Asks.{asks, nextJob, exec-keep}
-use Rattle.calls_connect.specs.After.{connectAfter}
-use Rattle.calls_memory.specs.After.{memoryAfter}
-use Rattle.calls_core.specs.After.{coreAfter}
-use Rattle.calls_fpb.specs.After.{fpbAfter}
-use Rattle.calls_nrf.specs.After.{nrfAfter}
+use Rattle.connect.specs.After.{connectAfter}
+use Rattle.memory.specs.After.{memoryAfter}
+use Rattle.core.specs.After.{coreAfter}
+use Rattle.fpb.specs.After.{fpbAfter}
+use Rattle.nrf.specs.After.{nrfAfter}
 use Rattle.calls.specs.declared.At.{At}
 use Rattle.calls.specs.declared.At.the-variants as A
 use Rattle.calls.specs.declared.Asks.{Asks}

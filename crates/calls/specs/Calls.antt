@@ -8,17 +8,17 @@ use Rattle.transport.specs.Wire.{Wire, Memory}
 use Rattle.transport.specs.declared.Remembered.{Remembered}
 use Rattle.memap.specs.Flight.{memoryOf}
 use Rattle.jobs.specs.Job.{Job, exec}
-use Rattle.calls_connect.specs.Connect.{connectJob}
-use Rattle.calls_memory.specs.Memory.{memoryJob}
-use Rattle.calls_memory.specs.declared.MemoryCall.{MemoryCall}
-use Rattle.calls_memory.specs.declared.MemoryCall.the-variants as M
-use Rattle.calls_core.specs.Function.{coreJob}
-use Rattle.calls_core.specs.declared.CoreCall.{CoreCall}
-use Rattle.calls_core.specs.declared.CoreCall.the-variants as K
-use Rattle.calls_fpb.specs.Breakpoint.{fpbJob}
-use Rattle.calls_nrf.specs.Nrf.{nrfJob}
-use Rattle.calls_nrf.specs.declared.NrfCall.{NrfCall}
-use Rattle.calls_nrf.specs.declared.NrfCall.the-variants as N
+use Rattle.connect.specs.Connect.{connectJob}
+use Rattle.memory.specs.Memory.{memoryJob}
+use Rattle.memory.specs.declared.MemoryCall.{MemoryCall}
+use Rattle.memory.specs.declared.MemoryCall.the-variants as M
+use Rattle.core.specs.Function.{coreJob}
+use Rattle.core.specs.declared.CoreCall.{CoreCall}
+use Rattle.core.specs.declared.CoreCall.the-variants as K
+use Rattle.fpb.specs.Breakpoint.{fpbJob}
+use Rattle.nrf.specs.Nrf.{nrfJob}
+use Rattle.nrf.specs.declared.NrfCall.{NrfCall}
+use Rattle.nrf.specs.declared.NrfCall.the-variants as N
 use Rattle.calls.specs.declared.EngineCall.{EngineCall}
 use Rattle.calls.specs.declared.EngineCall.the-variants as C
 use Rattle.calls.specs.declared.Frame.{Frame}

@@ -7,18 +7,18 @@
 ghost use mathlib.Core.Path.{_≡_};
 ghost use lib.Seq.{sets};
 ghost use Rattle.jobs.specs.Asks.{asks};
-ghost use Rattle.calls_connect.specs.After.{connectAfter};
-ghost use Rattle.calls_memory.specs.After.{memoryAfter};
-ghost use Rattle.calls_core.specs.After.{coreAfter};
-ghost use Rattle.calls_fpb.specs.After.{fpbAfter};
-ghost use Rattle.calls_nrf.specs.After.{nrfAfter};
+ghost use Rattle.connect.specs.After.{connectAfter};
+ghost use Rattle.memory.specs.After.{memoryAfter};
+ghost use Rattle.core.specs.After.{coreAfter};
+ghost use Rattle.fpb.specs.After.{fpbAfter};
+ghost use Rattle.nrf.specs.After.{nrfAfter};
 ghost use Rattle.calls.specs.Calls.{jobOf, lentWords, lentFlash, lent, frameOf, coreFrame, frameFor, rowWith, leave};
 ghost use Rattle.calls.specs.After.{callAfter, asksJob};
-use calls_connect::{ConnectAsks, ConnectAt, ConnectCall};
-use calls_core::{CoreAsks, CoreAt, CoreCall};
-use calls_fpb::{FpbAsks, FpbAt, FpbCall};
-use calls_memory::{MemoryAsks, MemoryAt, MemoryCall};
-use calls_nrf::{NrfAsks, NrfAt, NrfCall};
+use connect::{ConnectAsks, ConnectAt, ConnectCall};
+use core::{CoreAsks, CoreAt, CoreCall};
+use fpb::{FpbAsks, FpbAt, FpbCall};
+use memory::{MemoryAsks, MemoryAt, MemoryCall};
+use nrf::{NrfAsks, NrfAt, NrfCall};
 use jobs::{Change, Next};
 use transport::Outcome;
 
@@ -104,11 +104,11 @@ pub fn call_after(p: At, o: Outcome) -> Asks
     ensures { λ r. ⌜ callAfter p o ≡ asksJob r ⌝ }
 {
     match p {
-        At::Connect(q) => connect_asks(calls_connect::call_after(q, o)),
-        At::Memory(q) => memory_asks(calls_memory::call_after(q, o)),
-        At::Core(q) => core_asks(calls_core::call_after(q, o)),
-        At::Fpb(q) => fpb_asks(calls_fpb::call_after(q, o)),
-        At::Nrf(q) => nrf_asks(calls_nrf::call_after(q, o)),
+        At::Connect(q) => connect_asks(connect::call_after(q, o)),
+        At::Memory(q) => memory_asks(memory::call_after(q, o)),
+        At::Core(q) => core_asks(core::call_after(q, o)),
+        At::Fpb(q) => fpb_asks(fpb::call_after(q, o)),
+        At::Nrf(q) => nrf_asks(nrf::call_after(q, o)),
     }
 }
 
@@ -117,11 +117,11 @@ pub fn call_start(c: EngineCall, words: usize, bytes: usize) -> Asks
     ensures { λ r. ⌜ jobOf c words bytes ≡ asksJob r ⌝ }
 {
     match c {
-        EngineCall::Connect(q) => connect_asks(calls_connect::start(q)),
-        EngineCall::Memory(q) => memory_asks(calls_memory::start(q, words, bytes)),
-        EngineCall::Core(q) => core_asks(calls_core::start(q)),
-        EngineCall::Fpb(q) => fpb_asks(calls_fpb::start(q)),
-        EngineCall::Nrf(q) => nrf_asks(calls_nrf::start(q, words)),
+        EngineCall::Connect(q) => connect_asks(connect::start(q)),
+        EngineCall::Memory(q) => memory_asks(memory::start(q, words, bytes)),
+        EngineCall::Core(q) => core_asks(core::start(q)),
+        EngineCall::Fpb(q) => fpb_asks(fpb::start(q)),
+        EngineCall::Nrf(q) => nrf_asks(nrf::start(q, words)),
     }
 }
 

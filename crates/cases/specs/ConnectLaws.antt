@@ -20,8 +20,8 @@ use Rattle.transport.specs.declared.ArmError.the-variants as E
 use Rattle.memap.specs.Ops.{perform}
 use Rattle.jobs.specs.declared.Change.the-variants as C
 use Rattle.jobs.specs.Job.{exec, attempt, orFail, return, fail, cond}
-use Rattle.calls_connect.specs.Connect.{connectJob, setUp, pollAcks, bothAcks, noTarget}
-use Rattle.calls_connect.specs.declared.ConnectCall.the-variants as K
+use Rattle.connect.specs.Connect.{connectJob, setUp, pollAcks, bothAcks, noTarget}
+use Rattle.connect.specs.declared.ConnectCall.the-variants as K
 use Rattle.target.specs.Choice.{pick}
 use Rattle.target.specs.DebugPort.{powered, ctrlStat}
 use Rattle.target.specs.Deliver.{fault, answerOf, reach, transfer as arrives}
@@ -43,12 +43,14 @@ ends-ask : (m : Memory) (c : Call) (f : Answer → Wire) (n : ℕ) (t : Target) 
   → Ends (f (x .answer)) n (x .target) (x .mem) e k → Ends (ask m c f) (suc n) t mem e (suc k)
 unfolding play talk
 ends-ask m c f n t mem e k x h y =
-    let z = subst (λ (x : Heard). Ends (f (x .answer)) n (x .target) (x .mem) e k) (sym h) y in record { ending = z .ending; calls = ap suc (z .calls) }
+    let z = subst (λ (x : Heard). Ends (f (x .answer)) n (x .target) (x .mem) e k) (sym h) y in record { ending = z .ending; calls = ap suc
+        (z .calls) }
 
 -- the target once power-up was asked for, with n reads of CTRL/STAT owed
 abbrev pub asked : Target → ℕ → Target
 asked t n =
-    record { dpidr = t .dpidr; d = t .d; width = t .width; base = t .base; select = 0; cdbgpwrupreq = true; csyspwrupreq = true; owed = n; sticky = false; rdbuff = t .rdbuff; csw = t .csw; tar = t .tar }
+    record { dpidr = t .dpidr; d = t .d; width = t .width; base = t .base; select = 0; cdbgpwrupreq = true; csyspwrupreq = true; owed = n; sticky =
+        false; rdbuff = t .rdbuff; csw = t .csw; tar = t .tar }
 
 -- a connect that has at most k polls left, and what follows a poll
 abbrev pub polling : ℕ → ℕ → Memory → Wire
@@ -73,7 +75,8 @@ ends-poll k n v b m t mem e count h =
     (subst (λ (j : ℕ). Ends (polling k v m) b (asked t j) mem e count) (less n) h))
 
 -- fewer reads owed than polls: the acks come in time
-pub polls-end : (k n v b : ℕ) (m : Memory) (t : Target) (mem : List ℕ) → n < k → n < b → Ends (polling k v m) b (asked t n) mem (ended (Value v)) (suc n)
+pub polls-end : (k n v b : ℕ) (m : Memory) (t : Target) (mem : List ℕ) → n < k → n < b
+    → Ends (polling k v m) b (asked t n) mem (ended (Value v)) (suc n)
 unfolding pollAcks exec perform transfer tries arrives play talk
 polls-end zero n v b m t mem h g = absurd (not-suc-le-zero h)
 polls-end (suc k) n v zero m t mem h g = absurd (not-suc-le-zero g)
@@ -82,7 +85,8 @@ polls-end (suc k) (suc n) v (suc b) m t mem h g =
     ends-poll k n v b m t mem (ended (Value v)) (suc n) (polls-end k n v b m t mem (le-of-suc-le-suc h) (le-of-suc-le-suc g))
 
 -- as many owed as polls, or more
-pub polls-fail : (k n v b : ℕ) (m : Memory) (t : Target) (mem : List ℕ) → k ≤ n → k ≤ b → Ends (polling k v m) b (asked t n) mem (ended (Failed E.PowerUpTimeout)) k
+pub polls-fail : (k n v b : ℕ) (m : Memory) (t : Target) (mem : List ℕ) → k ≤ n → k ≤ b
+    → Ends (polling k v m) b (asked t n) mem (ended (Failed E.PowerUpTimeout)) k
 unfolding pollAcks exec play talk
 polls-fail zero n v b m t mem h g = record { ending = refl; calls = refl }
 polls-fail (suc k) zero v b m t mem h g = absurd (not-suc-le-zero h)
@@ -101,11 +105,13 @@ dpidr-read t mem = go (t .sticky)
     go true = refl
     go false = refl
 
-abort-written : (t : Target) (mem : List ℕ) → line t mem (T.Transfer 0 0x1E) Deliver ≡ record { answer = Good 0; target = withSticky t false; mem = mem }
+abort-written : (t : Target) (mem : List ℕ) → line t mem (T.Transfer 0 0x1E) Deliver ≡ record { answer = Good 0; target = withSticky t false; mem =
+    mem }
 unfolding arrives
 abort-written t mem = go (t .sticky)
   where
-    go : (s : Bool) → heard (answerOf (pick (s && false) (record { reply = fault; target = t; mem = mem }) (reach (Dp D.AbortWrite) t mem 0x1E) .reply))
+    go : (s : Bool) → heard (answerOf (pick (s && false) (record { reply = fault; target = t; mem = mem }) (reach
+        (Dp D.AbortWrite) t mem 0x1E) .reply))
         (pick (s && false) (record { reply = fault; target = t; mem = mem }) (reach (Dp D.AbortWrite) t mem 0x1E))
       ≡ record { answer = Good 0; target = withSticky t false; mem = mem }
     go true = refl
@@ -119,7 +125,8 @@ power-asked t mem h = ap (λ (b : Bool). record { answer = Good 0; target = aske
 
 -- what every connect does once DPIDR is good
 set-up-ends : (v b : ℕ) (m : Memory) (t : Target) (mem : List ℕ) (e : Ending) (count : ℕ) → powered t ≡ false
-  → ((m₂ : Memory) → Ends (polling 1024 v m₂) b (asked t (t .d)) mem e count) → Ends (exec (setUp C.New v) m) (suc (suc (suc b))) t mem e (suc (suc (suc count)))
+  → ((m₂ : Memory) → Ends (polling 1024 v m₂) b (asked t (t .d)) mem e count) → Ends (exec (setUp C.New v) m) (suc (suc (suc b))) t mem e (suc (suc
+    (suc count)))
 unfolding exec perform transfer tries arrives
 set-up-ends v b m t mem e count h k =
     ends-ask _ _ _ _ t mem e _ _ (abort-written t mem)
@@ -135,7 +142,8 @@ accepting none v m = exec (attempt (cond none (fail E.NoTarget) (return v)) (orF
 connect-ends : (b : ℕ) (m : Memory) (t : Target) (mem : List ℕ) (e : Ending) (count : ℕ)
   → (t .dpidr ≡ 0 → ⊥) → (t .dpidr ≡ 0xFFFFFFFF → ⊥) → powered t ≡ false
   → ((m₂ : Memory) → Ends (polling 1024 (t .dpidr) m₂) b (asked t (t .d)) mem e count)
-  → Ends (exec (connectJob K.ConnectSwd) m) (suc (suc (suc (suc (suc (suc (suc (suc (suc (suc b)))))))))) t mem e (suc (suc (suc (suc (suc (suc (suc (suc (suc (suc count))))))))))
+  → Ends (exec (connectJob K.ConnectSwd) m) (suc (suc (suc (suc (suc (suc (suc (suc (suc (suc b)))))))))) t mem e (suc (suc (suc (suc (suc (suc (suc
+    (suc (suc (suc count))))))))))
 unfolding connectJob exec perform raw transfer tries
 connect-ends b m t mem e count h g p k =
     ends-ask _ _ _ _ t mem e _ _ refl (ends-ask _ _ _ _ t mem e _ _ refl (ends-ask _ _ _ _ t mem e _ _ refl (ends-ask _ _ _ _ t mem e _ _ refl

@@ -6,7 +6,7 @@ use Rattle.transport.specs.Wire.{play}
 use Rattle.transport.specs.Transfer.{tries, transfer, raw}
 use Rattle.jobs.specs.Job.{exec}
 use Rattle.memap.specs.Ops.{perform}
-use Rattle.calls_memory.specs.Memory.{memoryJob, memFrom}
+use Rattle.memory.specs.Memory.{memoryJob, memFrom}
 use Rattle.listing.specs.Text.{digits, hex, together}
 use Rattle.listing.specs.Listing.{callLines}
 use Rattle.request.specs.BigEndian.{row}
@@ -37,5 +37,6 @@ listing =
     ++ ((48 ∷ 32 ∷ 49 ∷ 50 ∷ 51 ∷ 52 ∷ 53 ∷ 54 ∷ 55 ∷ 56 ∷ 10 ∷ []))))))
 
 pub the-listing : outputOf script ≡ listing
-unfolding outputOf wellFormed requestOf wordsOf bytesOf goodAnswers row performed requestText digits hex together callLines play tries transfer raw exec memoryJob memFrom perform
+unfolding outputOf wellFormed requestOf wordsOf bytesOf goodAnswers row performed requestText digits hex together callLines play tries transfer raw
+    exec memoryJob memFrom perform
 the-listing = refl

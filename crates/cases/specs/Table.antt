@@ -20,11 +20,11 @@ use Rattle.memap.specs.Flight.{memoryOf}
 use Rattle.jobs.specs.Bytes.{storeWords, storePart, loadWords, patchBytes}
 use Rattle.jobs.specs.Change.{fresh}
 use Rattle.jobs.specs.Job.{exec}
-use Rattle.calls_connect.specs.Connect.{ones, parity}
-use Rattle.calls_memory.specs.Memory.{runWords, memFrom, memoryJob}
-use Rattle.calls_memory.specs.declared.MemoryCall.the-variants as M
-use Rattle.calls_fpb.specs.Breakpoint.{fpbCompValue}
-use Rattle.calls_fpb.specs.declared.CompValue.the-variants as P
+use Rattle.connect.specs.Connect.{ones, parity}
+use Rattle.memory.specs.Memory.{runWords, memFrom, memoryJob}
+use Rattle.memory.specs.declared.MemoryCall.the-variants as M
+use Rattle.fpb.specs.Breakpoint.{fpbCompValue}
+use Rattle.fpb.specs.declared.CompValue.the-variants as P
 use Rattle.calls.specs.Calls.{callTree}
 use Rattle.calls.specs.declared.EngineCall.the-variants as N
 
@@ -54,7 +54,8 @@ abbrev pub oneTransfer : List Answer → Played
 oneTransfer answers = play (callTree (N.Memory (M.ApRegWrite 0 7)) known row [] []) answers
 
 -- 64 WAITs and then Ok: Ok, 65 calls
-pub waits-64 : (v : ℕ) → (oneTransfer (afterWaits 64 (Good v ∷ [])) .ending ≡ ended (Value 0)) × (length (oneTransfer (afterWaits 64 (Good v ∷ [])) .calls) ≡ 65)
+pub waits-64 : (v : ℕ) → (oneTransfer (afterWaits 64 (Good v ∷ [])) .ending ≡ ended (Value 0))
+    × (length (oneTransfer (afterWaits 64 (Good v ∷ [])) .calls) ≡ 65)
 unfolding play exec memoryJob perform transfer tries
 waits-64 v = (refl, refl)
 

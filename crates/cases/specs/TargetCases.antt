@@ -12,7 +12,7 @@ use Rattle.transport.specs.declared.Remembered.{Remembered}
 use Rattle.transport.specs.declared.Outcome.the-variants.{Value, Failed}
 use Rattle.transport.specs.declared.ArmError.the-variants as E
 use Rattle.memap.specs.Flight.{memoryOf}
-use Rattle.calls_connect.specs.declared.ConnectCall.the-variants as K
+use Rattle.connect.specs.declared.ConnectCall.the-variants as K
 use Rattle.calls.specs.Calls.{callTree, rowFor}
 use Rattle.calls.specs.declared.EngineCall.{EngineCall}
 use Rattle.calls.specs.declared.EngineCall.the-variants as N
@@ -40,7 +40,8 @@ module _ (r : Remembered) (words buf : List ℕ) (budget : ℕ) (t : Target) (me
   pub connects : t .d < 1024 → 11 + t .d ≤ budget
     → (connecting r words buf budget t mem .ending ≡ ended (Value (t .dpidr))) × (length (connecting r words buf budget t mem .calls) ≡ 11 + t .d)
   connects lt le =
-      let x = call-ends budget (memoryOf r (rowFor call3 words) buf) t mem (ended (Value (t .dpidr))) (suc (t .d)) (h .some) (h .driven) (h .clear) (omega arith)
+      let x = call-ends budget (memoryOf r (rowFor call3 words) buf) t mem (ended (Value (t .dpidr))) (suc (t .d)) (h .some) (h .driven) (h .clear)
+        (omega arith)
           (λ m. polls-end 1024 (t .d) (t .dpidr) (budget - 10) m t mem lt (omega arith)) in
       (x .ending, omega (arith, x .calls))
 
@@ -48,7 +49,8 @@ module _ (r : Remembered) (words buf : List ℕ) (budget : ℕ) (t : Target) (me
   pub times-out : 1024 ≤ t .d → 1034 ≤ budget
     → (connecting r words buf budget t mem .ending ≡ ended (Failed E.PowerUpTimeout)) × (length (connecting r words buf budget t mem .calls) ≡ 1034)
   times-out lt le =
-      let x = call-ends budget (memoryOf r (rowFor call3 words) buf) t mem (ended (Failed E.PowerUpTimeout)) 1024 (h .some) (h .driven) (h .clear) (omega arith)
+      let x = call-ends budget (memoryOf r (rowFor call3 words) buf) t mem (ended (Failed E.PowerUpTimeout)) 1024 (h .some) (h .driven) (h .clear)
+        (omega arith)
           (λ m. polls-fail 1024 (t .d) (t .dpidr) (budget - 10) m t mem lt (omega arith)) in
       (x .ending, x .calls)
 

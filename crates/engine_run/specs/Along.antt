@@ -50,7 +50,8 @@ pub along-none : (l : List ℕ) (p : Played) → Along 0 l l p p
 along-none l p = record { calls = omega arith; memory = refl; ending = refl; log = refl; readable = λ h. h }
 
 -- the start, with the limit that a budget comes to
-pub along-start : (w : Wire) (limit budget : ℕ) (xs l : List ℕ) → take limit xs ≡ take budget xs → Along 0 l l (play w (within budget xs)) (play w (rest limit xs 0))
+pub along-start : (w : Wire) (limit budget : ℕ) (xs l : List ℕ) → take limit xs ≡ take budget xs
+    → Along 0 l l (play w (within budget xs)) (play w (rest limit xs 0))
 along-start w limit budget xs l e =
     subst (λ (ys : List ℕ). Along 0 l l (play w (map answerOf ys)) (play w (rest limit xs 0))) e (along-none l (play w (rest limit xs 0)))
 
@@ -169,5 +170,6 @@ along-push last more r ws buf k limit xs i l₀ l p l₂ v word h g z n x y al =
     (push-more last more k (memoryOf r ws buf) z ∙ ap (λ (u : ℕ). transferring 0xD u (next (push last (more - 1)) k) (memoryOf r ws buf)) (sym y)) al)
 
 -- the same under another name
-pub along-same : (w w₂ : Wire) (i : ℕ) (l₀ l : List ℕ) (p : Played) (more : List Answer) → w ≡ w₂ → Along i l₀ l p (play w more) → Along i l₀ l p (play w₂ more)
+pub along-same : (w w₂ : Wire) (i : ℕ) (l₀ l : List ℕ) (p : Played) (more : List Answer) → w ≡ w₂ → Along i l₀ l p (play w more)
+    → Along i l₀ l p (play w₂ more)
 along-same w w₂ i l₀ l p more e al = subst (λ (v : Wire). Along i l₀ l p (play v more)) e al

@@ -70,7 +70,8 @@ pub op-goes : (s : Started) (r : Remembered) (ws buf : List ℕ) (k : Then) (lim
 op-goes s r ws buf k limit xs i l₀ l p x l₂ o w h e f al =
     let then : Outcome → Wire = reachAfter (s .launched .reach) (opAfter (s .doing) k) (memoryOf r ws buf) in
     along-same (then o) w (x .count) l₀ l₂ p (rest limit xs (x .count)) f
-    (subst (λ (z : RunEnd). Along (x .count) l₀ l₂ p (leftOf z (memoryOf r ws buf) then (rest limit xs (x .count)))) e (h .1 (memoryOf r ws buf) then l₀ p al))
+    (subst (λ (z : RunEnd). Along (x .count) l₀ l₂ p (leftOf z (memoryOf r ws buf) then (rest limit xs (x .count)))) e (h .1
+      (memoryOf r ws buf) then l₀ p al))
 
 -- or stops, no answer being left
 pub op-stops : (s : Started) (r : Remembered) (ws buf : List ℕ) (k : Then) (limit : ℕ) (xs : List ℕ) (i : ℕ) (l₀ l : List ℕ) (p : Played)
@@ -78,7 +79,8 @@ pub op-stops : (s : Started) (r : Remembered) (ws buf : List ℕ) (k : Then) (li
   → Along i l₀ l p (play (startedTree s k (memoryOf r ws buf)) (rest limit xs i)) → Along (x .count) l₀ l₂ p (stopped (memoryOf r ws buf))
 op-stops s r ws buf k limit xs i l₀ l p x l₂ h e al =
     let then : Outcome → Wire = reachAfter (s .launched .reach) (opAfter (s .doing) k) (memoryOf r ws buf) in
-    subst (λ (z : RunEnd). Along (x .count) l₀ l₂ p (leftOf z (memoryOf r ws buf) then (rest limit xs (x .count)))) e (h .1 (memoryOf r ws buf) then l₀ p al)
+    subst (λ (z : RunEnd). Along (x .count) l₀ l₂ p (leftOf z (memoryOf r ws buf) then (rest limit xs (x .count)))) e (h .1
+        (memoryOf r ws buf) then l₀ p al)
 
 -- the call ends, or asks for an operation
 exec-end : (o : Outcome) (m : Memory) → exec (ends o) m ≡ done m o
@@ -97,7 +99,8 @@ asks-op a m m₂ w h e =
 op-left : (a : Asks) (m : Memory) (w : Op) (r : Remembered) (ws buf : List ℕ) (limit : ℕ) (xs : List ℕ) (i : ℕ) (l₀ l : List ℕ) (p : Played)
   (x : OpRan) (ws₂ l₂ : List ℕ) → changed (a .change) m ≡ memoryOf r ws buf → a .next ≡ X.Do w → OpRuns (perform w) r limit xs i ws l x ws₂ l₂
   → Along i l₀ l p (play (exec (asksJob a) m) (rest limit xs i))
-  → Along (x .count) l₀ l₂ p (leftOf (x .end) (memoryOf (x .remembered) ws₂ buf) (thenOf (callAfter (a .at)) (memoryOf (x .remembered) ws₂ buf)) (rest limit xs (x .count)))
+  → Along (x .count) l₀ l₂ p (leftOf (x .end) (memoryOf (x .remembered) ws₂ buf) (thenOf (callAfter (a .at)) (memoryOf (x .remembered) ws₂ buf))
+    (rest limit xs (x .count)))
 op-left a m w r ws buf limit xs i l₀ l p x ws₂ l₂ e f h al =
     h .1 buf (thenOf (callAfter (a .at))) l₀ p (along-same _ _ i l₀ l p (rest limit xs i) (asks-op a m (memoryOf r ws buf) w e f) al)
 
@@ -110,7 +113,8 @@ pub call-goes : (a : Asks) (m : Memory) (w : Op) (r : Remembered) (ws buf : List
 call-goes a m w r ws buf limit xs i l₀ l p x ws₂ l₂ o a₂ e f h d c al =
     let m₂ : Memory = memoryOf (x .remembered) ws₂ buf in
     let more : List Answer = rest limit xs (x .count) in
-    along-same (thenOf (callAfter (a .at)) m₂ o) (exec (asksJob a₂) m₂) (x .count) l₀ l₂ p more (then-is (callAfter (a .at)) m₂ o ∙ ap (λ (j : Job). exec j m₂) c)
+    along-same (thenOf (callAfter (a .at)) m₂ o) (exec (asksJob a₂) m₂) (x .count) l₀ l₂ p more (then-is (callAfter (a .at)) m₂ o
+        ∙ ap (λ (j : Job). exec j m₂) c)
     (subst (λ (z : RunEnd). Along (x .count) l₀ l₂ p (leftOf z m₂ (thenOf (callAfter (a .at)) m₂) more)) d
     (op-left a m w r ws buf limit xs i l₀ l p x ws₂ l₂ e f h al))
 
@@ -126,9 +130,11 @@ call-stops a m w r ws buf limit xs i l₀ l p x ws₂ l₂ e f h d al =
 
 -- the report of a run of which nothing is left
 reports-none : (i : ℕ) (l₀ l : List ℕ) (p : Played) (x : Ending) (r : Ran) (ws b : List ℕ)
-  → Along i l₀ l p (record { calls = []; memory = memoryOf (r .remembered) ws b; ending = x }) → r .count ≡ i → r .ending ≡ endingOf x → Reports p r ws b l₀ l
+  → Along i l₀ l p (record { calls = []; memory = memoryOf (r .remembered) ws b; ending = x }) → r .count ≡ i → r .ending ≡ endingOf x
+    → Reports p r ws b l₀ l
 reports-none i l₀ l p x r ws b al n e =
-    record { count = omega (arith, al .calls, n); ending = e ∙ ap endingOf (sym (al .ending)); memory = sym (al .memory); log = sym (al .log); readable = al .readable refl }
+    record { count = omega (arith, al .calls, n); ending = e ∙ ap endingOf (sym (al .ending)); memory = sym (al .memory); log = sym
+        (al .log); readable = al .readable refl }
 
 -- the call has ended
 pub ended-at : (i : ℕ) (l₀ l : List ℕ) (p : Played) (r : Remembered) (ws b : List ℕ) (o : Outcome) (more : List Answer)

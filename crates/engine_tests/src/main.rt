@@ -1,11 +1,11 @@
 // What no script shows: what is remembered after Spent, the end of a ROM table, the steps themselves; and 01's cases that are
 // not marked P. Each line: a name, then for each call the transport calls made, the result number and value, and SELECT, CSW,
 // APSEL after.
-use calls_connect::ConnectCall;
-use calls_core::CoreCall;
-use calls_memory::MemoryCall;
-use calls_nrf::NrfCall;
 use calls::EngineCall;
+use connect::ConnectCall;
+use core::CoreCall;
+use memory::MemoryCall;
+use nrf::NrfCall;
 use engine::{NextStep, StepAnswer};
 use engine_run::Ran;
 use numbers::{CallEnding, TransportCall};

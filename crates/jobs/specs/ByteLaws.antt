@@ -56,7 +56,8 @@ pub words-loaded : (b ws : List ℕ) → Turns ws (λ (k : ℕ). loadWords k b w
 unfolding loadWords
 words-loaded b ws = record { start = refl; turn = λ (k : ℕ). refl }
 
-pub bytes-patched : (w skip : ℕ) (b : List ℕ) → Turns (leBytes w) (λ (k : ℕ). patchBytes k w skip b) (λ (k : ℕ). skip + k) (λ (k : ℕ). getD b k 0 ∷ [])
+pub bytes-patched : (w skip : ℕ) (b : List ℕ) → Turns (leBytes w) (λ (k : ℕ). patchBytes k w skip b) (λ (k : ℕ). skip + k) (λ
+    (k : ℕ). getD b k 0 ∷ [])
 unfolding patchBytes
 bytes-patched w skip b = record { start = refl; turn = λ (k : ℕ). refl }
 

@@ -69,4 +69,5 @@ bufAfter (C.Put at word) ws b = b
 bufAfter (C.Registers r0 r1 r2 r3 sp lr pc) ws b = b
 
 abbrev pub changed : Change → Memory → Memory
-changed c m = record { remembered = rememberedAfter c (m .remembered); words = wordsAfter c (m .words) (m .buf); buf = bufAfter c (m .words) (m .buf) }
+changed c m = record { remembered = rememberedAfter c (m .remembered); words = wordsAfter c (m .words) (m .buf); buf = bufAfter c (m .words)
+    (m .buf) }

@@ -8,7 +8,8 @@ use Rattle.jobs.specs.Job.{Job, ends, op, keep, attempt, orFail, _>>=_, 
 
 attempt-assoc : (j : Job) (f g : Outcome → Job) → attempt (attempt j f) g ≡ attempt j (λ o. attempt (f o) g)
 attempt-assoc (ends o) f g = refl
-attempt-assoc (op w good bad) f g = ap₂ (op w) (fun-ext (λ (v : ℕ). attempt-assoc (good v) f g)) (fun-ext (λ (e : ArmError). attempt-assoc (bad e) f g))
+attempt-assoc (op w good bad) f g = ap₂ (op w) (fun-ext (λ (v : ℕ). attempt-assoc (good v) f g)) (fun-ext (λ (e : ArmError). attempt-assoc
+    (bad e) f g))
 attempt-assoc (keep c j) f g = ap (keep c) (attempt-assoc j f g)
 
 or-fail : (f g : ℕ → Job) (o : Outcome) → attempt (orFail f o) (orFail g) ≡ orFail (λ v. f v >>= g) o

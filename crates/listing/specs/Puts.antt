@@ -45,7 +45,8 @@ pub left-puts : {l₀ : List ℕ} {i₀ : ℕ} {t₀ l : List ℕ} {i : ℕ} {a 
 left-puts {l₀} {i₀} {t₀} {l} {i} {a} b {l₁} {r} h p =
     record {
       place = h .place ∙ joined i (length a) (length b) (length (a ++ b)) r (length-append a b) (p .place);
-      text = h .text ∙ sym (sets-append l i a b) ∙ ap (λ (x : List ℕ). sets x (i + length a) b) (sym (p .text)) ∙ ap (λ (n : ℕ). sets l₁ n b) (sym (p .place));
+      text = h .text ∙ sym (sets-append l i a b) ∙ ap (λ (x : List ℕ). sets x (i + length a) b) (sym (p .text))
+        ∙ ap (λ (n : ℕ). sets l₁ n b) (sym (p .place));
     }
   where
     joined : (i m n k r : ℕ) → k ≡ m + n → r ≡ i + m → i + k ≡ r + n

@@ -77,8 +77,10 @@ pub left-line : (xs : List ℕ) (i : ℕ) {l₀ : List ℕ} {i₀ : ℕ} {t₀ l
 unfolding callLines
 left-line xs i {l₀} {i₀} {t₀} {l} {p} lt h q =
     left-puts (callLines (i + 1 + 1) (map callOf (drop (i + 1) xs)))
-    (subst (λ (n : ℕ). Left l₀ i₀ t₀ l p (callLine (i + 1) (callOf (getD xs i 0)) ++ callLines n (map callOf (drop (i + 1) xs)))) (sym (add-one (i + 1)))
-    (subst (λ (ys : List ℕ). Left l₀ i₀ t₀ l p (callLines (i + 1) (map callOf ys))) (drop-cons xs i 0 lt ∙ ap (λ (n : ℕ). getD xs i 0 ∷ drop n xs) (sym (add-one i))) h)) q
+    (subst (λ (n : ℕ). Left l₀ i₀ t₀ l p (callLine (i + 1) (callOf (getD xs i 0)) ++ callLines n (map callOf (drop (i + 1) xs)))) (sym (add-one
+      (i + 1)))
+    (subst (λ (ys : List ℕ). Left l₀ i₀ t₀ l p (callLines (i + 1) (map callOf ys))) (drop-cons xs i 0 lt
+      ∙ ap (λ (n : ℕ). getD xs i 0 ∷ drop n xs) (sym (add-one i))) h)) q
 
 pub left-lines : (xs : List ℕ) (i n : ℕ) {l₀ : List ℕ} {i₀ : ℕ} {t₀ l : List ℕ} {p : ℕ} → length xs ≤ i
     → Left l₀ i₀ t₀ l p (callLines n (map callOf (drop i xs))) → Puts l₀ i₀ t₀ l p

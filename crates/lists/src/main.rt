@@ -1,12 +1,12 @@
 // Lists of calls, each list on one engine, as the unchanged Rust made them. Standard input and what must be printed for it:
 // tools/README.md.
 ghost use Prim.Native.Nat.{_<_};
-use calls_connect::ConnectCall;
-use calls_core::{CoreCall, Function};
-use calls_fpb::FpbCall;
-use calls_memory::MemoryCall;
-use calls_nrf::NrfCall;
 use calls::EngineCall;
+use connect::ConnectCall;
+use core::{CoreCall, Function};
+use fpb::FpbCall;
+use memory::MemoryCall;
+use nrf::NrfCall;
 use numbers::CallEnding;
 use transport::{Call, Remembered};
 

@@ -16,8 +16,6 @@ use Rattle.memap.specs.Ports.{selected, cswKnown, apAccess, apWrite, apR
 use Rattle.memap.specs.Words.{flush, place, pull, push, pushAll, rowAt}
 use Rattle.memap.specs.declared.Reach.{Reach}
 use Rattle.memap.specs.declared.Launched.{Launched}
-use Rattle.memap.specs.declared.Reached.{Reached}
-use Rattle.memap.specs.declared.Reached.the-variants.{Going, Over}
 use Rattle.memap.specs.declared.Kind.{Kind}
 use Rattle.memap.specs.declared.Kind.the-variants as K
 use Rattle.memap.specs.declared.Phase.{Phase}
@@ -51,11 +49,6 @@ reachAfter r k m o = stageAfter (r .selecting) r k m o
 abbrev pub launchedTree : Memory → Launched → Then → Wire
 launchedTree m l k = transferTree m (l .transfer) (reachAfter (l .reach) k m)
 
--- m is as before; what is remembered may be more
-abbrev pub reachedTree : Memory → Reached → Then → Wire
-reachedTree m (Going r l) k = launchedTree (remembering m r) l k
-reachedTree m (Over r o) k = k (remembering m r) o
-
 -- what a task does once TAR stands; n: how many words
 abbrev pub dataAt : Kind → Task → ℕ → Action
 dataAt K.ReadWord t n = apRead DRW
@@ -68,9 +61,6 @@ atTar t n = apWrite TAR (t .addr) >> dataAt (t .kind) t n
 
 abbrev pub ensuringTask : Task → ℕ → Action
 ensuringTask t n = ensureCsw CSW-DEFAULT >> atTar t n
-
-abbrev pub noTask : Task
-noTask = record { kind = K.ReadWord; addr = 0; word = 0; last = 0 }
 
 -- what follows the access of each phase; l: n before the data, then how many more
 abbrev pub phaseAfter : Phase → Task → ℕ → Then → Then
@@ -101,7 +91,11 @@ abbrev pub wentTree : List ℕ → List ℕ → Went → Then → Wire
 wentTree ws b (Moving r s) k = startedTree s k (memoryOf r ws b)
 wentTree ws b (Finished r o) k = k (memoryOf r ws b) o
 
--- every phase hands an error on
+-- an error behind SELECT ends the access, and every phase hands it on
+pub stage-fails : (b : Bool) (r : Reach) (k : Then) (m : Memory) (e : ArmError) → stageAfter b r k m (Failed e) ≡ k m (Failed e)
+stage-fails true r k m e = refl
+stage-fails false r k m e = refl
+
 pub fails : (p : Phase) (t : Task) (l : ℕ) (k : Then) (m : Memory) (e : ArmError) → phaseAfter p t l k m (Failed e) ≡ k m (Failed e)
 fails P.Only t l k m e = refl
 fails P.Unit t l k m e = refl

@@ -4,16 +4,19 @@
 
 // Registers of the two ports with the SELECT and CSW caches, words and runs of words, each transfer by transfer.
 ghost use mathlib.Core.Path.{_≡_};
+ghost use mathlib.Core.Bool.{true};
 ghost use mathlib.Core.List.{List};
 ghost use Prim.Native.Nat.{ℕ, _-_};
 ghost use lib.ListN.{set, getD};
 ghost use Rattle.transport.specs.Wire.{Memory, follow};
 ghost use Rattle.transport.specs.Transfer.{transfer, raw};
-ghost use Rattle.memap.specs.Action.{Then};
-ghost use Rattle.memap.specs.Ports.{apAccess, dpRead, RDBUFF};
-ghost use Rattle.memap.specs.Words.{pull, push};
+ghost use Rattle.transport.specs.Flight.{transferTree};
+ghost use Rattle.memap.specs.Action.{Then, transferring};
+ghost use Rattle.memap.specs.Ports.{apAccess, cswKnown, DRW};
+ghost use Rattle.memap.specs.Words.{place, pull, push};
 ghost use Rattle.memap.specs.Ops.{perform};
-ghost use Rattle.memap.specs.Flight.{memoryOf, reachAfter, launchedTree, reachedTree, dataAt, atTar, ensuringTask, noTask, phaseAfter, opAfter, startedTree, nextTree, wentTree};
+ghost use Rattle.transport.specs.declared.Outcome.the-variants.{Value};
+ghost use Rattle.memap.specs.Flight.{memoryOf, next, stageAfter, reachAfter, launchedTree, dataAt, atTar, ensuringTask, phaseAfter, opAfter, startedTree, nextTree, wentTree};
 use transport::{Answer, Call, Outcome, Remembered, Transfer};
 
 // What follows an access's transfer: while `selecting`, the transfer `request` with `word`.
@@ -30,23 +33,11 @@ pub struct Launched {
     pub transfer: Transfer,
 }
 
-pub enum Reached {
-    Going(Remembered, Launched),
-    Over(Remembered, Outcome),
-}
-
 // A transfer with no SELECT before it.
 fn direct(request: u8, word: u32) -> Launched
     ensures { λ r. ⌜ ((m : Memory) (k : Then) → transfer m request word (k m) ≡ launchedTree m r k) ⌝ }
 {
     let t = transport::begin(request, word);
-    Launched { reach: Reach { selecting: false, select: 0, request: 0, word: 0 }, transfer: t }
-}
-
-fn direct_raw(c: Call) -> Launched
-    ensures { λ r. ⌜ ((m : Memory) (k : Then) → raw m c (k m) ≡ launchedTree m r k) ⌝ }
-{
-    let t = transport::begin_raw(c);
     Launched { reach: Reach { selecting: false, select: 0, request: 0, word: 0 }, transfer: t }
 }
 
@@ -60,24 +51,6 @@ fn access_start(r: Remembered, request: u8, addr: u8, word: u32) -> Launched
     }
     let t = transport::begin(8, s);
     Launched { reach: Reach { selecting: true, select: s, request: request, word: word }, transfer: t }
-}
-
-// What an access does with the outcome of its transfer.
-fn reach_after(r: Remembered, a: Reach, o: Outcome) -> Reached
-    ensures { λ x. ⌜ ((ws buf : List ℕ) (k : Then) → reachAfter a k (memoryOf r ws buf) o ≡ reachedTree (memoryOf r ws buf) x k) ⌝ }
-{
-    if a.selecting {
-        match o {
-            Outcome::Value(_) => {
-                let d = direct(a.request, a.word);
-                return Reached::Going(Remembered { select: a.select, csw: r.csw, apsel: r.apsel }, d);
-            }
-            Outcome::Failed(_) => {
-                return Reached::Over(r, o);
-            }
-        }
-    }
-    Reached::Over(r, o)
 }
 
 // What a call may ask for. The words of a run stand in the row, the last at place `last`.
@@ -177,12 +150,20 @@ pub fn word_at(row: &[u32], i: u32) -> u32
     0
 }
 
-// A read of RDBUFF, in a phase with nothing left to count.
-fn rdbuff_on(t: Task, phase: Phase) -> Started
-    ensures { λ r. ⌜ ((k : Then) (m : Memory) → dpRead RDBUFF (phaseAfter phase t 0 k) m ≡ startedTree r k m) ⌝ }
+// A transfer with no SELECT before it, in a phase of a task.
+fn direct_on(phase: Phase, left: u32, t: Task, request: u8, word: u32) -> Started
+    ensures { λ r. ⌜ ((k : Then) (m : Memory) → transferring request word (phaseAfter phase t left k) m ≡ startedTree r k m) ⌝ }
 {
-    let x = direct(14, 0);
-    Started { doing: Doing { phase: phase, left: 0, task: t }, launched: x }
+    let x = direct(request, word);
+    Started { doing: Doing { phase: phase, left: left, task: t }, launched: x }
+}
+
+// An access of the access port, in a phase of a task.
+fn access_on(r: Remembered, phase: Phase, left: u32, t: Task, request: u8, addr: u8, word: u32) -> Started
+    ensures { λ x. ⌜ ((ws buf : List ℕ) (k : Then) → apAccess request addr word (phaseAfter phase t left k) (memoryOf r ws buf) ≡ startedTree x k (memoryOf r ws buf)) ⌝ }
+{
+    let x = access_start(r, request, addr, word);
+    Started { doing: Doing { phase: phase, left: left, task: t }, launched: x }
 }
 
 // The next access of a run of reads: DRW while `more` are to be asked for, and then RDBUFF.
@@ -190,10 +171,9 @@ pub fn pull_on(t: Task, more: u32) -> Started
     ensures { λ r. ⌜ ((k : Then) (m : Memory) → pull (t .last) more k m ≡ startedTree r k m) ⌝ }
 {
     if more == 0 {
-        return rdbuff_on(t, Phase::Last);
+        return direct_on(Phase::Last, 0, t, 14, 0);
     }
-    let x = direct(15, 0);
-    Started { doing: Doing { phase: Phase::Pull, left: more, task: t }, launched: x }
+    direct_on(Phase::Pull, more, t, 15, 0)
 }
 
 // The next access of a run of writes: DRW while `more` words are to go, and then RDBUFF.
@@ -201,19 +181,32 @@ pub fn push_on(t: Task, more: u32, row: &[u32]) -> Started
     ensures { λ r. ⌜ ((k : Then) (m : Memory) → m .words ≡ now (row .entry) → push (t .last) more k m ≡ startedTree r k m) ⌝ }
 {
     if more == 0 {
-        return rdbuff_on(t, Phase::Unit);
+        return direct_on(Phase::Unit, 0, t, 14, 0);
     }
     let v = word_at(row, minus(t.last, more - 1));
-    let x = direct(13, v);
-    Started { doing: Doing { phase: Phase::Push, left: more, task: t }, launched: x }
+    direct_on(Phase::Push, more, t, 13, v)
 }
 
-// TAR, and then the task's data.
-fn tar_on(r: Remembered, t: Task, n: u32) -> Started
-    ensures { λ x. ⌜ ((ws buf : List ℕ) (k : Then) → atTar t n k (memoryOf r ws buf) ≡ startedTree x k (memoryOf r ws buf)) ⌝ }
+// RDBUFF is next, in a phase of a task.
+fn rdbuff_next(r: Remembered, phase: Phase, t: Task) -> OpNext
+    ensures { λ x. ⌜ ((ws buf : List ℕ) (k : Then) → transferring 14 0 (phaseAfter phase t 0 k) (memoryOf r ws buf) ≡ nextTree ws buf x k) ⌝ }
 {
-    let x = access_start(r, 5, 4, t.addr);
-    Started { doing: Doing { phase: Phase::Tar, left: n, task: t }, launched: x }
+    OpNext::Moving(r, direct_on(phase, 0, t, 14, 0))
+}
+
+// DRW is next, in a phase of a task.
+fn drw_next(r: Remembered, phase: Phase, left: u32, t: Task, request: u8, word: u32) -> OpNext
+    ensures { λ x. ⌜ ((ws buf : List ℕ) (k : Then) → apAccess request DRW word (phaseAfter phase t left k) (memoryOf r ws buf) ≡ nextTree ws buf x k) ⌝ }
+{
+    OpNext::Moving(r, access_on(r, phase, left, t, request, 12, word))
+}
+
+// CSW stands: TAR is next.
+fn tar_next(r: Remembered, t: Task, n: u32) -> OpNext
+    ensures { λ x. ⌜ ((ws buf : List ℕ) (k : Then) → atTar t n k (memoryOf (cswKnown r) ws buf) ≡ nextTree ws buf x k) ⌝ }
+{
+    let known = Remembered { select: r.select, csw: true, apsel: r.apsel };
+    OpNext::Moving(known, access_on(known, Phase::Tar, n, t, 5, 4, t.addr))
 }
 
 // The first data access of a task.
@@ -222,121 +215,115 @@ fn data_on(r: Remembered, t: Task, n: u32, row: &[u32]) -> OpNext
 {
     let kind = t.kind;
     match kind {
-        Kind::ReadWord => {
-            let x = access_start(r, 15, 12, 0);
-            OpNext::Moving(r, Started { doing: Doing { phase: Phase::Posted, left: n, task: t }, launched: x })
-        }
-        Kind::WriteWord => {
-            let x = access_start(r, 13, 12, t.word);
-            OpNext::Moving(r, Started { doing: Doing { phase: Phase::Sent, left: n, task: t }, launched: x })
-        }
+        Kind::ReadWord => return drw_next(r, Phase::Posted, n, t, 15, 0),
+        Kind::WriteWord => return drw_next(r, Phase::Sent, n, t, 13, t.word),
         Kind::ReadWords => {
             if n == 0 {
                 return OpNext::Finished(r, Outcome::Value(0));
             }
-            let x = access_start(r, 15, 12, 0);
-            OpNext::Moving(r, Started { doing: Doing { phase: Phase::First, left: n, task: t }, launched: x })
+            return drw_next(r, Phase::First, n, t, 15, 0);
         }
         Kind::WriteWords => {
             let v = word_at(row, minus(t.last, minus(n, 1)));
-            let x = access_start(r, 13, 12, v);
-            OpNext::Moving(r, Started { doing: Doing { phase: Phase::Push, left: n, task: t }, launched: x })
+            return drw_next(r, Phase::Push, n, t, 13, v);
         }
     }
 }
 
-// What an operation does with the outcome of its access.
-fn op_after(r: Remembered, d: Doing, o: Outcome, row: &mut [u32]) -> OpNext
-    ensures { λ x. ⌜ ((buf : List ℕ) (k : Then) → opAfter d k (memoryOf r (now (row .entry)) buf) o ≡ nextTree (now (row .exit)) buf x k) ⌝ }
+// A word of a run of reads goes to the row, n places before its last.
+fn pulled(r: Remembered, t: Task, n: u32, v: u32, row: &mut [u32]) -> OpNext
+    ensures { λ x. ⌜ ((buf : List ℕ) (k : Then) → place (t .last - n) v (next (pull (t .last) (n - 1)) k) (memoryOf r (now (row .entry)) buf) ≡ nextTree (now (row .exit)) buf x k) ⌝ }
 {
-    let f = OpNext::Finished(r, o);
-    let Outcome::Value(v) = o else {
-        return f;
-    };
+    place_word(row, minus(t.last, n), v);
+    OpNext::Pulling(r, t, minus(n, 1))
+}
+
+// The last word of a run of reads goes to the row.
+fn pulled_last(r: Remembered, t: Task, v: u32, row: &mut [u32]) -> OpNext
+    ensures { λ x. ⌜ ((buf : List ℕ) (k : Then) → place (t .last) v k (memoryOf r (now (row .entry)) buf) ≡ nextTree (now (row .exit)) buf x k) ⌝ }
+{
+    place_word(row, t.last, v);
+    OpNext::Finished(r, Outcome::Value(0))
+}
+
+// What an operation does with the value of its access.
+fn value_after(r: Remembered, d: Doing, v: u32, row: &mut [u32]) -> OpNext
+    ensures { λ x. ⌜ ((buf : List ℕ) (k : Then) → opAfter d k (memoryOf r (now (row .entry)) buf) (Value v) ≡ nextTree (now (row .exit)) buf x k) ⌝ }
+{
     let t = d.task;
+    let n = d.left;
     let phase = d.phase;
     match phase {
-        Phase::Only => f,
-        Phase::Unit => OpNext::Finished(r, Outcome::Value(0)),
-        Phase::Posted => OpNext::Moving(r, rdbuff_on(t, Phase::Only)),
-        Phase::Csw => {
-            let known = Remembered { select: r.select, csw: true, apsel: r.apsel };
-            OpNext::Moving(known, tar_on(known, t, d.left))
-        }
-        Phase::Tar => data_on(r, t, d.left, row),
-        Phase::Sent => OpNext::Moving(r, rdbuff_on(t, Phase::Unit)),
-        Phase::First => OpNext::Pulling(r, t, minus(d.left, 1)),
-        Phase::Pull => {
-            place_word(row, minus(t.last, d.left), v);
-            OpNext::Pulling(r, t, minus(d.left, 1))
-        }
-        Phase::Last => {
-            place_word(row, t.last, v);
-            OpNext::Finished(r, Outcome::Value(0))
-        }
-        Phase::Push => OpNext::Pushing(r, t, minus(d.left, 1)),
+        Phase::Only => return OpNext::Finished(r, Outcome::Value(v)),
+        Phase::Unit => return OpNext::Finished(r, Outcome::Value(0)),
+        Phase::Posted => return rdbuff_next(r, Phase::Only, t),
+        Phase::Csw => return tar_next(r, t, n),
+        Phase::Tar => return data_on(r, t, n, row),
+        Phase::Sent => return rdbuff_next(r, Phase::Unit, t),
+        Phase::First => return OpNext::Pulling(r, t, minus(n, 1)),
+        Phase::Pull => return pulled(r, t, n, v, row),
+        Phase::Last => return pulled_last(r, t, v, row),
+        Phase::Push => return OpNext::Pushing(r, t, minus(n, 1)),
     }
 }
 
-// A word or a run of words: CSW first, where it is not known.
+// A word or a run of words: CSW first, where it is not known, and then TAR.
 fn task_start(r: Remembered, t: Task, n: u32) -> Started
     ensures { λ x. ⌜ ((ws buf : List ℕ) (k : Then) → ensuringTask t n k (memoryOf r ws buf) ≡ startedTree x k (memoryOf r ws buf)) ⌝ }
 {
     if r.csw {
-        return tar_on(r, t, n);
+        return access_on(r, Phase::Tar, n, t, 5, 4, t.addr);
     }
-    let x = access_start(r, 1, 0, 0x23000012);
-    Started { doing: Doing { phase: Phase::Csw, left: n, task: t }, launched: x }
+    access_on(r, Phase::Csw, n, t, 1, 0, 0x23000012)
 }
 
-// An access with no task behind it.
-fn lone(phase: Phase, x: Launched) -> Started
-    ensures { λ s. ⌜ s ≡ record { doing = record { phase = phase; left = 0; task = noTask }; launched = x } ⌝ }
+// A transport call as it stands, with nothing to do after it; t is any task.
+fn raw_start(c: Call, t: Task) -> Started
+    ensures { λ x. ⌜ ((k : Then) (m : Memory) → raw m c (k m) ≡ startedTree x k m) ⌝ }
 {
-    Started { doing: Doing { phase: phase, left: 0, task: Task { kind: Kind::ReadWord, addr: 0, word: 0, last: 0 } }, launched: x }
+    let x = transport::begin_raw(c);
+    let alone = Reach { selecting: false, select: 0, request: 0, word: 0 };
+    Started { doing: Doing { phase: Phase::Only, left: 0, task: t }, launched: Launched { reach: alone, transfer: x } }
 }
 
 pub fn op_start(r: Remembered, op: Op) -> Started
     ensures { λ x. ⌜ ((ws buf : List ℕ) (k : Then) → perform op k (memoryOf r ws buf) ≡ startedTree x k (memoryOf r ws buf)) ⌝ }
 {
+    let none = Task { kind: Kind::ReadWord, addr: 0, word: 0, last: 0 };
     match op {
-        Op::DpRead { addr } => {
-            let x = direct(2 + addr % 16 / 4 * 4, 0);
-            lone(Phase::Only, x)
-        }
-        Op::DpWrite { addr, word } => {
-            let x = direct(addr % 16 / 4 * 4, word);
-            lone(Phase::Unit, x)
-        }
-        Op::ApRead { addr } => {
-            let x = access_start(r, 3 + addr % 16 / 4 * 4, addr, 0);
-            lone(Phase::Posted, x)
-        }
-        Op::ApWrite { addr, word } => {
-            let x = access_start(r, 1 + addr % 16 / 4 * 4, addr, word);
-            lone(Phase::Unit, x)
-        }
-        Op::ReadWord { addr } => task_start(r, Task { kind: Kind::ReadWord, addr: addr, word: 0, last: 0 }, 0),
-        Op::WriteWord { addr, word } => task_start(r, Task { kind: Kind::WriteWord, addr: addr, word: word, last: 0 }, 0),
-        Op::ReadWords { addr, n, last } => task_start(r, Task { kind: Kind::ReadWords, addr: addr, word: 0, last: last }, n),
-        Op::WriteWords { addr, n, last } => task_start(r, Task { kind: Kind::WriteWords, addr: addr, word: 0, last: last }, n),
-        Op::Other(c) => {
-            let x = direct_raw(c);
-            lone(Phase::Only, x)
-        }
+        Op::DpRead { addr } => return direct_on(Phase::Only, 0, none, 2 + addr % 16 / 4 * 4, 0),
+        Op::DpWrite { addr, word } => return direct_on(Phase::Unit, 0, none, addr % 16 / 4 * 4, word),
+        Op::ApRead { addr } => return access_on(r, Phase::Posted, 0, none, 3 + addr % 16 / 4 * 4, addr, 0),
+        Op::ApWrite { addr, word } => return access_on(r, Phase::Unit, 0, none, 1 + addr % 16 / 4 * 4, addr, word),
+        Op::ReadWord { addr } => return task_start(r, Task { kind: Kind::ReadWord, addr: addr, word: 0, last: 0 }, 0),
+        Op::WriteWord { addr, word } => return task_start(r, Task { kind: Kind::WriteWord, addr: addr, word: word, last: 0 }, 0),
+        Op::ReadWords { addr, n, last } => return task_start(r, Task { kind: Kind::ReadWords, addr: addr, word: 0, last: last }, n),
+        Op::WriteWords { addr, n, last } => return task_start(r, Task { kind: Kind::WriteWords, addr: addr, word: 0, last: last }, n),
+        Op::Other(c) => return raw_start(c, none),
     }
 }
 
-// What an operation in flight does with the outcome of its transport call.
+// SELECT is written: the access's own transfer is next.
+fn selected_next(r: Remembered, s: Started) -> OpNext
+    ensures { λ x. ⌜ ((ws buf : List ℕ) (k : Then) → stageAfter true (s .launched .reach) (opAfter (s .doing) k) (memoryOf r ws buf) (Value 0) ≡ nextTree ws buf x k) ⌝ }
+{
+    let d = s.doing;
+    let x = direct(s.launched.reach.request, s.launched.reach.word);
+    OpNext::Moving(Remembered { select: s.launched.reach.select, csw: r.csw, apsel: r.apsel }, Started { doing: d, launched: x })
+}
+
+// What an operation in flight does with the outcome of its transport call; an error ends it.
 pub fn op_ended(r: Remembered, s: Started, o: Outcome, row: &mut [u32]) -> OpNext
     ensures { λ x. ⌜ ((buf : List ℕ) (k : Then) → reachAfter (s .launched .reach) (opAfter (s .doing) k) (memoryOf r (now (row .entry)) buf) o ≡ nextTree (now (row .exit)) buf x k) ⌝ }
 {
-    let d = s.doing;
-    let l = s.launched;
-    let reach = l.reach;
-    match reach_after(r, reach, o) {
-        Reached::Going(r2, l2) => OpNext::Moving(r2, Started { doing: d, launched: l2 }),
-        Reached::Over(r2, o2) => op_after(r2, d, o2, row),
+    match o {
+        Outcome::Value(v) => {
+            if s.launched.reach.selecting {
+                return selected_next(r, s);
+            }
+            return value_after(r, s.doing, v, row);
+        }
+        Outcome::Failed(e) => return OpNext::Finished(r, Outcome::Failed(e)),
     }
 }
 
@@ -345,26 +332,29 @@ fn resumed(n: OpNext, row: &[u32]) -> Went
     ensures { λ x. ⌜ ((buf : List ℕ) (k : Then) → nextTree (now (row .entry)) buf n k ≡ wentTree (now (row .entry)) buf x k) ⌝ }
 {
     match n {
-        OpNext::Moving(r, s) => Went::Moving(r, s),
-        OpNext::Finished(r, o) => Went::Finished(r, o),
-        OpNext::Pulling(r, t, more) => Went::Moving(r, pull_on(t, more)),
-        OpNext::Pushing(r, t, more) => Went::Moving(r, push_on(t, more, row)),
+        OpNext::Moving(r, s) => return Went::Moving(r, s),
+        OpNext::Finished(r, o) => return Went::Finished(r, o),
+        OpNext::Pulling(r, t, more) => return Went::Moving(r, pull_on(t, more)),
+        OpNext::Pushing(r, t, more) => return Went::Moving(r, push_on(t, more, row)),
     }
+}
+
+// The transport call in flight goes on as t.
+fn again(r: Remembered, s: Started, t: Transfer) -> Went
+    ensures { λ x. ⌜ ((ws buf : List ℕ) (k : Then) → transferTree (memoryOf r ws buf) t (reachAfter (s .launched .reach) (opAfter (s .doing) k) (memoryOf r ws buf)) ≡ wentTree ws buf x k) ⌝ }
+{
+    let d = s.doing;
+    let l = s.launched;
+    let reach = l.reach;
+    Went::Moving(r, Started { doing: d, launched: Launched { reach: reach, transfer: t } })
 }
 
 // What an operation in flight does with an answer.
 pub fn op_step(r: Remembered, s: Started, a: Answer, row: &mut [u32]) -> Went
     ensures { λ x. ⌜ ((buf : List ℕ) (k : Then) → follow (startedTree s k (memoryOf r (now (row .entry)) buf)) a ≡ wentTree (now (row .exit)) buf x k) ⌝ }
 {
-    let d = s.doing;
-    let l = s.launched;
-    let reach = l.reach;
-    let t = l.transfer;
-    match transport::transfer_step(t, a) {
-        transport::Went::Again(t2) => Went::Moving(r, Started { doing: d, launched: Launched { reach: reach, transfer: t2 } }),
-        transport::Went::Ended(o) => {
-            let n = op_ended(r, s, o, row);
-            resumed(n, row)
-        }
+    match transport::transfer_step(s.launched.transfer, a) {
+        transport::Went::Again(t2) => return again(r, s, t2),
+        transport::Went::Ended(o) => return resumed(op_ended(r, s, o, row), row),
     }
 }

@@ -5,12 +5,12 @@ use mathlib.Core.Bool.{Bool, true, false, _&&_}
 use mathlib.Core.List.{List, []}
 use lib.Dec.{eqb, leb}
 use lib.ListN.{length, replicate, drop}
-use Rattle.calls_connect.specs.declared.ConnectCall.the-variants as N
-use Rattle.calls_memory.specs.declared.MemoryCall.the-variants as M
-use Rattle.calls_core.specs.declared.Function.{Function}
-use Rattle.calls_core.specs.declared.CoreCall.the-variants as K
-use Rattle.calls_fpb.specs.declared.FpbCall.the-variants as P
-use Rattle.calls_nrf.specs.declared.NrfCall.the-variants as F
+use Rattle.connect.specs.declared.ConnectCall.the-variants as N
+use Rattle.memory.specs.declared.MemoryCall.the-variants as M
+use Rattle.core.specs.declared.Function.{Function}
+use Rattle.core.specs.declared.CoreCall.the-variants as K
+use Rattle.fpb.specs.declared.FpbCall.the-variants as P
+use Rattle.nrf.specs.declared.NrfCall.the-variants as F
 use Rattle.calls.specs.declared.EngineCall.{EngineCall}
 use Rattle.calls.specs.declared.EngineCall.the-variants as E
 use Rattle.request.specs.BigEndian.{byte, half, word, row}

@@ -7,13 +7,13 @@ ghost use lib.ListN.{length};
 ghost use Rattle.request.specs.declared.Buffer.the-variants as B;
 ghost use Rattle.request.specs.BigEndian.{byte as Number·byte, half as Number·half, word as Number·word};
 ghost use Rattle.request.specs.Request.{fixed as Request·fixed, wordsFollow, bytesFollow, functionOf, connectRequest, memoryRequest, runRequest, coreRequest, functionRequest, fpbRequest, nrfRequest, requestOf};
-use calls_connect::ConnectCall;
-use calls_core::CoreCall;
-use calls_core::Function;
-use calls_fpb::FpbCall;
-use calls_memory::MemoryCall;
-use calls_nrf::NrfCall;
 use calls::EngineCall;
+use connect::ConnectCall;
+use core::CoreCall;
+use core::Function;
+use fpb::FpbCall;
+use memory::MemoryCall;
+use nrf::NrfCall;
 
 // What a call is lent: zeros that are printed afterwards, or the rest of its record, words behind so many bytes. `Frame`: zeros
 // for a frame, which is printed if the call succeeds.

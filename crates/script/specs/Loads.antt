@@ -65,7 +65,8 @@ left-rest {l₀} {i₀} {t₀} {l} a j lt h =
     left-one (getD a (4 + j) 0) (drop (4 + (j + 1)) a)
     (subst (λ (t : List ℕ). Left l₀ i₀ t₀ l j t) (drop-cons a (4 + j) 0 lt ∙ ap (λ (m : ℕ). getD a (4 + j) 0 ∷ drop m a) e) h)
 
-pub rest-whole : {l₀ l : List ℕ} (a : List ℕ) (j : ℕ) → length a ≤ 4 + j → length (drop 4 a) ≡ length l₀ → Left l₀ 0 (drop 4 a) l j (drop (4 + j) a) → l ≡ drop 4 a
+pub rest-whole : {l₀ l : List ℕ} (a : List ℕ) (j : ℕ) → length a ≤ 4 + j → length (drop 4 a) ≡ length l₀
+    → Left l₀ 0 (drop 4 a) l j (drop (4 + j) a) → l ≡ drop 4 a
 rest-whole {l₀} {l} a j le e h = left-whole e (subst (λ (t : List ℕ). Left l₀ 0 (drop 4 a) l j t) (drop-of-length-le a le) h)
 
 pub good-none : (xs : List ℕ) (i : ℕ) → goodAnswers xs 0 i ≡ true

@@ -63,7 +63,8 @@ module _ (c : EngineCall) (b : Buffer) (words₀ buf₀ answers : List ℕ) {r :
   log-calls =
       let n : length (map codeOf (run .calls)) ≡ r .count = length-map (run .calls) codeOf ∙ sym (h .count) in
       let e : take (r .count) l ≡ map codeOf (run .calls) =
-      ap (λ (x : List ℕ). take (r .count) x) (h .log) ∙ subst (λ (k : ℕ). take k (sets l₀ 0 (map codeOf (run .calls))) ≡ map codeOf (run .calls)) n (front l₀ (map codeOf (run .calls)) (omega (arith, count-most))) in
+      ap (λ (x : List ℕ). take (r .count) x) (h .log) ∙ subst (λ (k : ℕ). take k (sets l₀ 0 (map codeOf (run .calls))) ≡ map codeOf (run .calls)) n
+        (front l₀ (map codeOf (run .calls)) (omega (arith, count-most))) in
       ap (λ (x : List ℕ). map callOf x) e ∙ h .readable
 
   pub performed-text : length (take (r .count) l) + length words + length buf ≤ 0xFFFFFFFF

@@ -41,7 +41,8 @@ starts c e connect r₀ r frame row₀ buf₀ x row buf he hc hr hw h =
     subst (λ (w : Wire). Steps w x row buf)
     (ap (λ (y : EngineCall). exec (jobOf y 0 (length buf₀)) (memoryOf r row₀ buf₀)) he
     ∙ ap (λ (y : Remembered). exec (jobOf (engineCall c) 0 (length buf₀)) (memoryOf y row₀ buf₀)) (hr ∙ ap (λ (b : Bool). rememberedFor b r₀) hc)
-    ∙ ap (λ (y : List ℕ). exec (jobOf (engineCall c) 0 (length buf₀)) (memoryOf (rememberedFor (isConnect c) r₀) y buf₀)) (hw ∙ ap (λ (y : EngineCall). rowFor y frame) he)
+    ∙ ap (λ (y : List ℕ). exec (jobOf (engineCall c) 0 (length buf₀)) (memoryOf (rememberedFor (isConnect c) r₀) y buf₀)) (hw
+      ∙ ap (λ (y : EngineCall). rowFor y frame) he)
     ∙ over-row c (rememberedFor (isConnect c) r₀) (rowFor (engineCall c) frame) buf₀) h
 
 -- the check that the code made is the one that the definition asks for

@@ -5,9 +5,9 @@ use mathlib.Core.Bool.{Bool, true, false}
 use mathlib.Core.List.{List}
 use lib.Dec.{eqb, leb}
 use lib.ListN.{getD}
-use Rattle.calls_core.specs.declared.Function.{Function}
-use Rattle.calls_core.specs.declared.CoreCall.the-variants as K
-use Rattle.calls_fpb.specs.declared.FpbCall.the-variants as P
+use Rattle.core.specs.declared.Function.{Function}
+use Rattle.core.specs.declared.CoreCall.the-variants as K
+use Rattle.fpb.specs.declared.FpbCall.the-variants as P
 use Rattle.session_rules.specs.declared.SessionCall.the-variants as S
 use Rattle.session_items.specs.declared.Listed.{Listed}
 use Rattle.session_items.specs.declared.Listed.the-variants.{Call, Nothing}

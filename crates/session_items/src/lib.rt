@@ -3,8 +3,8 @@ ghost use mathlib.Core.Path.{_≡_};
 ghost use Prim.Native.Nat.{_%_, _≤_};
 ghost use lib.ListN.{length, getD};
 ghost use Rattle.session_items.specs.Records.{arg, functionAt, memoryAt, coreAt, fpbAt, byNumber, callAt};
-use calls_core::{CoreCall, Function};
-use calls_fpb::FpbCall;
+use core::{CoreCall, Function};
+use fpb::FpbCall;
 use session_rules::SessionCall;
 
 // The call of a record, or that its number is none of a session's.

@@ -5,8 +5,8 @@ use mathlib.Core.Bool.{Bool, true, false, not}
 use lib.Dec.{eqb, leb}
 use Rattle.transport.specs.declared.ArmError.{ArmError}
 use Rattle.transport.specs.declared.ArmError.the-variants as E
-use Rattle.calls_connect.specs.declared.ConnectCall.the-variants as N
-use Rattle.calls_memory.specs.declared.MemoryCall.the-variants as M
+use Rattle.connect.specs.declared.ConnectCall.the-variants as N
+use Rattle.memory.specs.declared.MemoryCall.the-variants as M
 use Rattle.calls.specs.declared.EngineCall.{EngineCall}
 use Rattle.calls.specs.declared.EngineCall.the-variants as C
 use Rattle.session_rules.specs.declared.SessionCall.{SessionCall}

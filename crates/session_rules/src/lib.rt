@@ -6,11 +6,11 @@ ghost use lib.Dec.{leb};
 ghost use Rattle.session_rules.specs.Admits.{engineCall, isConnect, aligned, ranged, admitted, refusal};
 ghost use Rattle.calls.specs.Calls.{coreFrame};
 ghost use Rattle.session_rules.specs.Session.{kindBy, kindOf};
-use calls_connect::ConnectCall;
-use calls_core::CoreCall;
-use calls_fpb::FpbCall;
-use calls_memory::MemoryCall;
 use calls::{EngineCall, Frame};
+use connect::ConnectCall;
+use core::CoreCall;
+use fpb::FpbCall;
+use memory::MemoryCall;
 use session_phase::Kind;
 use transport::ArmError;
 

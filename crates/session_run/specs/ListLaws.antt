@@ -12,7 +12,8 @@ use Rattle.agreement.specs.Demand3.{Item, Moment, Made, made, history, lastOf}
 use Rattle.session_run.specs.Items.{codeOf, resultsOf, buffersAfter}
 
 -- of the calls ms₀ i are made; the others, ms, start from x, and their buffers at `place`
-pub record Going (x₀ : Moment) (ms₀ : List Made) (bytes₀ results₀ : List ℕ) (i : ℕ) (x : Moment) (ms : List Made) (place : ℕ) (bytes results : List ℕ) : Type 0 where
+pub record Going (x₀ : Moment) (ms₀ : List Made) (bytes₀ results₀ : List ℕ) (i : ℕ) (x : Moment) (ms : List Made) (place : ℕ)
+    (bytes results : List ℕ) : Type 0 where
   pub calls : length ms₀ ≡ i + length ms
   pub last : lastOf x₀ ms₀ ≡ lastOf x ms
   pub buffers : buffersAfter ms₀ bytes₀ ≡ take place bytes ++ buffersAfter ms (drop place bytes)
@@ -54,7 +55,8 @@ module _ {x₀ : Moment} {ms₀ : List Made} {bytes₀ results₀ : List ℕ} wh
     calls = omega (arith, g .calls);
     last = g .last;
     buffers = g .buffers ∙ split place k bytes lent in′ all (buffersAfter ms) (made x it acts .came .buf) (length (it .buf)) same whole;
-    endings = g .endings ∙ ap (λ (n : ℕ). sets (set results i (codeOf (endingOf (made x it acts .came .ending)))) n (resultsOf ms)) (sym (add-one i)) }
+    endings = g .endings ∙ ap (λ (n : ℕ). sets (set results i (codeOf (endingOf (made x it acts .came .ending)))) n (resultsOf ms)) (sym
+        (add-one i)) }
     where
       ms : List Made
       ms = history (made x it acts .after) items (drop (length (made x it acts .answers)) acts)

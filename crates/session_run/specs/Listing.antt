@@ -14,10 +14,15 @@ use Rattle.session.specs.declared.Session.{Session}
 use Rattle.agreement.specs.Demand3.{Item, Moment, Made, made, history}
 use Rattle.session_items.specs.declared.Listed.the-variants.{Call, Nothing}
 use Rattle.session_run.specs.declared.CallRan.{CallRan}
+use Rattle.session_run.specs.declared.ListRan.{ListRan}
 use Rattle.session_run.specs.Ran.{moment, item, CallRuns}
 use Rattle.session_items.specs.Records.{ITEM, callAt, budgetAt, sizeAt}
 use Rattle.session_run.specs.Items.{itemThen, itemsFrom, codeOf, ListRuns}
 use Rattle.session_run.specs.ListLaws.{Going, going-start, going-more, left}
+
+-- what a list leaves whose last call was r
+abbrev pub listRan : CallRan → ℕ → ListRan
+listRan r calls = record { session = r .session; target = r .target; calls = calls }
 
 -- a part of the bytes, lent and put back
 module _ (place k : ℕ) (bytes : List ℕ) (in′ : place + k ≤ length bytes) where

@@ -68,13 +68,15 @@ standing-is a b r q f g h i j = rw (h, i, j)
 
 -- the session at the end of a call, and where its budget ended
 pub record Settles (s₀ : Session) (c : SessionCall) (lost : Bool) (m : Memory) (e : Ending) (s : Session) (lent : List ℕ) : Type 0 where
-  pub stands : standing s ≡ record { isOpen = opensAfter (isConnect c) lost e; remembered = m .remembered; frame = frameAfter c e (m .words) (s₀ .frame) }
+  pub stands : standing s ≡ record { isOpen = opensAfter (isConnect c) lost e; remembered = m .remembered; frame = frameAfter c e (m .words)
+    (s₀ .frame) }
   pub buf : lent ≡ m .buf
 
 pub settles-done : (s₀ : Session) (c : SessionCall) (lost : Bool) (m : Memory) (o : Outcome) (s : Session) (r : Reply) (lent : List ℕ)
   → Answers (kindOf c) lost (s₀ .frame) (done m o) s r lent → Settles s₀ c lost m (ended o) s lent
 settles-done s₀ c lost m o s r lent h = record {
-  stands = standing-is (isOpen (s .phase)) (opensAfter (isConnect c) lost (ended o)) (s .state .remembered) (m .remembered) (s .frame) (frameLeft (kindOf c) o (m .words) (s₀ .frame))
+  stands = standing-is (isOpen (s .phase)) (opensAfter (isConnect c) lost (ended o)) (s .state .remembered) (m .remembered) (s .frame) (frameLeft
+    (kindOf c) o (m .words) (s₀ .frame))
     (ap isOpen (h .phase) ∙ phase-opens c lost o) (ap (λ (x : Memory). x .remembered) (h .memory)) (h .frame);
   buf = ap (λ (x : Memory). x .buf) (h .memory) }
 
@@ -91,7 +93,8 @@ running-frame kind (tell m c w) f g = refl
 pub settles-spent : (s₀ : Session) (c : SessionCall) (lost : Bool) (w : Wire) (s : Session) (r : Reply) (lent : List ℕ) → Waits w
   → Answers (kindOf c) lost (s₀ .frame) w s r lent → Settles s₀ c lost (memoryIn w) spent s lent
 settles-spent s₀ c lost w s r lent g h = record {
-  stands = standing-is (isOpen (s .phase)) (opensAfter (isConnect c) lost spent) (s .state .remembered) (memoryIn w .remembered) (s .frame) (s₀ .frame)
+  stands = standing-is (isOpen (s .phase)) (opensAfter (isConnect c) lost spent) (s .state .remembered) (memoryIn w .remembered) (s .frame)
+    (s₀ .frame)
     (ap isOpen (h .phase) ∙ running-closed (kindOf c) lost w g ∙ spent-closed lost) (ap (λ (x : Memory). x .remembered) (h .memory))
     (h .frame ∙ running-frame (kindOf c) w (s₀ .frame) g);
   buf = ap (λ (x : Memory). x .buf) (h .memory) }
@@ -125,14 +128,17 @@ module _ (s₀ : Session) (c : SessionCall) (budget : ℕ) (buf₀ : List ℕ) (
     → CallRuns (made x₀ (item c budget buf₀) acts) r mem lent
   passed p = passed-by (refusal (isOpen (s₀ .phase)) c (length buf₀)) p
 
-  refused-by : (k : Check) (x : ArmError) → k ≡ Refuse x → (r : CallRan) → r .count ≡ 0 → r .ending ≡ resultOf (Failed x) → r .session ≡ s₀ → r .target ≡ t₀
+  refused-by : (k : Check) (x : ArmError) → k ≡ Refuse x → (r : CallRan) → r .count ≡ 0 → r .ending ≡ resultOf (Failed x) → r .session ≡ s₀
+    → r .target ≡ t₀
     → CallRuns (madeIf k x₀ (item c budget buf₀) acts) r mem₀ buf₀
   refused-by (Refuse y) x p r n f s t =
       let q : y ≡ x = cc in
-      record { count = n; ending = f ∙ ap (λ (z : ArmError). resultOf (Failed z)) (sym q); session = ap standing s; target = t; mem = refl; buf = refl }
+      record { count = n; ending = f ∙ ap (λ (z : ArmError). resultOf (Failed z)) (sym q); session = ap standing s; target = t; mem = refl; buf =
+        refl }
   refused-by Pass x p r n f s t = let z : _≡_ {A = ℕ} 0 1 = cc in absurd (omega arith)
 
   -- a call that was
-  pub refused : (x : ArmError) → refusal (isOpen (s₀ .phase)) c (length buf₀) ≡ Refuse x → (r : CallRan) → r .count ≡ 0 → r .ending ≡ resultOf (Failed x)
+  pub refused : (x : ArmError) → refusal (isOpen (s₀ .phase)) c (length buf₀) ≡ Refuse x → (r : CallRan) → r .count ≡ 0
+    → r .ending ≡ resultOf (Failed x)
     → r .session ≡ s₀ → r .target ≡ t₀ → CallRuns (made x₀ (item c budget buf₀) acts) r mem₀ buf₀
   refused x p = refused-by (refusal (isOpen (s₀ .phase)) c (length buf₀)) x p

@@ -7,6 +7,7 @@ use lib.ListN.{length, getD, drop, drop-of-length-le}
 use lib.Seq.{drop-cons}
 use Rattle.transport.specs.declared.Call.{Call}
 use Rattle.transport.specs.declared.Answer.{Answer}
+use Rattle.numbers.specs.declared.CallEnding.{CallEnding}
 use Rattle.numbers.specs.declared.TransportCall.{TransportCall}
 use Rattle.engine.specs.declared.NextStep.the-variants as N
 use Rattle.target.specs.Line.{line, told}
@@ -20,6 +21,7 @@ use Rattle.session.specs.declared.Session.{Session}
 use Rattle.session.specs.declared.Reply.{Reply}
 use Rattle.session.specs.declared.SessionAnswer.{SessionAnswer}
 use Rattle.session_run.specs.declared.Turned.{Turned}
+use Rattle.session_run.specs.declared.CallRan.{CallRan}
 use Rattle.session_run.specs.Items.{actsOf}
 use Rattle.session_run.specs.Under.{dueNow, Under, under-more}
 
@@ -48,25 +50,29 @@ acts-more i acts acts₀ acts′ h e = e ∙ ap actsThen h ∙ then-drop i acts�
 
 -- what a turn leaves
 pub record Turns (s : Session) (a : Act) (t : Target) (mem buf : List ℕ) (x : Turned) (mem′ buf′ : List ℕ) : Type 0 where
-  pub stepped : Stepped s (line t mem (dueNow s) a .answer) buf (x .session) (x .reply) buf′
+  pub stepped : Stepped s (line t mem (dueNow s) a .answer) buf (x .step .session) (x .step .reply) buf′
   pub target : x .target ≡ line t mem (dueNow s) a .target
   pub bytes : mem′ ≡ line t mem (dueNow s) a .mem
 
 pub turn-of : (s : Session) (a : Act) (t : Target) (mem buf : List ℕ) (d : Call) (x : Delivered) (y : SessionAnswer) (mem′ buf′ : List ℕ)
   → d ≡ dueNow s → x ≡ told (line t mem d a) → mem′ ≡ line t mem d a .mem → Stepped s (x .answer) buf (y .session) (y .reply) buf′
-  → Turns s a t mem buf (record { session = y .session; reply = y .reply; target = x .target }) mem′ buf′
+  → Turns s a t mem buf (record { step = y; target = x .target }) mem′ buf′
 turn-of s a t mem buf d x y mem′ buf′ e f g h = record {
   stepped = subst (λ (b : Answer). Stepped s b buf (y .session) (y .reply) buf′)
     (ap (λ (z : Delivered). z .answer) f ∙ ap (λ (k : Call). line t mem k a .answer) e) h;
   target = ap (λ (z : Delivered). z .target) f ∙ ap (λ (k : Call). line t mem k a .target) e;
   bytes = g ∙ ap (λ (k : Call). line t mem k a .mem) e }
 
+-- what a call leaves whose last turn was x
+abbrev pub callRan : Turned → ℕ → CallEnding → ℕ → CallRan
+callRan x count ending at = record { session = x .step .session; target = x .target; count = count; ending = ending; at = at }
+
 module _ (s₀ : Session) (c : SessionCall) (budget : ℕ) (buf₀ : List ℕ) (acts₀ : List Act) (t₀ : Target) (mem₀ : List ℕ) where
   pub under-turn : (i : ℕ) (acts acts′ : List Act) (a : Act) (s : Session) (r : Reply) (t : Target) (mem buf : List ℕ) (n : TransportCall)
     (x : Turned) (mem′ buf′ : List ℕ) → N.Make n ≡ r .next → i < budget → a ≡ actNow acts → acts′ ≡ actsThen acts → Turns s a t mem buf x mem′ buf′
     → Under s₀ c budget buf₀ acts₀ t₀ mem₀ i acts s r t mem buf
-    → Under s₀ c budget buf₀ acts₀ t₀ mem₀ (i + 1) acts′ (x .session) (x .reply) (x .target) mem′ buf′
+    → Under s₀ c budget buf₀ acts₀ t₀ mem₀ (i + 1) acts′ (x .step .session) (x .step .reply) (x .target) mem′ buf′
   under-turn i acts acts′ a s r t mem buf n x mem′ buf′ m l e f k h =
       rw (f, k .target, k .bytes, e)
-      (under-more s₀ c budget buf₀ acts₀ t₀ mem₀ i acts s r t mem buf n (x .session) (x .reply) buf′ m l h
-        (subst (λ (b : Act). Stepped s (line t mem (dueNow s) b .answer) buf (x .session) (x .reply) buf′) e (k .stepped)))
+      (under-more s₀ c budget buf₀ acts₀ t₀ mem₀ i acts s r t mem buf n (x .step .session) (x .step .reply) buf′ m l h
+        (subst (λ (b : Act). Stepped s (line t mem (dueNow s) b .answer) buf (x .step .session) (x .step .reply) buf′) e (k .stepped)))

@@ -69,14 +69,16 @@ make-waits (done m o) c h = let z : _≡_ {A = ℕ} 0 1 = cc in absurd (omega ar
 make-waits (ask m d f) c h = tt
 make-waits (tell m d w) c h = tt
 
-stepped-at : (p : Phase) (kind : Kind) (lost : Bool) → p ≡ P.Running kind lost → (before : Session) (a : Answer) (buf₀ : List ℕ) (s : Session) (r : Reply) (buf : List ℕ)
+stepped-at : (p : Phase) (kind : Kind) (lost : Bool) → p ≡ P.Running kind lost → (before : Session) (a : Answer) (buf₀ : List ℕ) (s : Session)
+    (r : Reply) (buf : List ℕ)
   → SteppedIn p before a buf₀ s r buf → SteppedIn (P.Running kind lost) before a buf₀ s r buf
 stepped-at p kind lost e before a buf₀ s r buf h = subst (λ (q : Phase). SteppedIn q before a buf₀ s r buf) e h
 
 module _ (s₀ : Session) (c : SessionCall) (budget : ℕ) (buf₀ : List ℕ) (acts₀ : List Act) (t₀ : Target) (mem₀ : List ℕ) where
   -- after i transport calls: the call was refused, or the session stands at some tree of the walk
   pub data Under (i : ℕ) (acts : List Act) (s : Session) (r : Reply) (t : Target) (mem buf : List ℕ) : Type 0 where
-    halted : (x : ArmError) → refusal (isOpen (s₀ .phase)) c (length buf₀) ≡ Refuse x → i ≡ 0 → Refused x s₀ s r buf₀ buf → t ≡ t₀ → mem ≡ mem₀ → Under i acts s r t mem buf
+    halted : (x : ArmError) → refusal (isOpen (s₀ .phase)) c (length buf₀) ≡ Refuse x → i ≡ 0 → Refused x s₀ s r buf₀ buf → t ≡ t₀ → mem ≡ mem₀
+        → Under i acts s r t mem buf
     walking : refusal (isOpen (s₀ .phase)) c (length buf₀) ≡ Pass → (w : Wire) (lost : Bool)
       → Walked i lost (tree s₀ c budget buf₀ acts₀ t₀ mem₀) (heard s₀ c budget buf₀ acts₀ t₀ mem₀) w (talk w (budget - i) acts t mem)
       → Answers (kindOf c) lost (s₀ .frame) w s r buf → Under i acts s r t mem buf
@@ -100,7 +102,8 @@ module _ (s₀ : Session) (c : SessionCall) (budget : ℕ) (buf₀ : List ℕ) (
   under-start s r buf h = start-by (refusal (isOpen (s₀ .phase)) c (length buf₀)) refl s r buf h
 
   -- one transport call more
-  pub under-more : (i : ℕ) (acts : List Act) (s : Session) (r : Reply) (t : Target) (mem buf : List ℕ) (x : TransportCall) (s′ : Session) (r′ : Reply) (buf′ : List ℕ)
+  pub under-more : (i : ℕ) (acts : List Act) (s : Session) (r : Reply) (t : Target) (mem buf : List ℕ) (x : TransportCall) (s′ : Session)
+    (r′ : Reply) (buf′ : List ℕ)
     → N.Make x ≡ r .next → i < budget → Under i acts s r t mem buf
     → Stepped s (line t mem (dueNow s) (actNow acts) .answer) buf s′ r′ buf′
     → Under (i + 1) (actsThen acts) s′ r′ (line t mem (dueNow s) (actNow acts) .target) (line t mem (dueNow s) (actNow acts) .mem) buf′
@@ -110,7 +113,8 @@ module _ (s₀ : Session) (c : SessionCall) (budget : ℕ) (buf₀ : List ℕ) (
   under-more i acts s r t mem buf x s′ r′ buf′ n l (walking e w lost wk an) st =
       walking e (follow w A) (lost || lostBy w A)
       (walk-more (budget - (i + 1)) acts t mem w (dueNow s) (subst (λ (v : Wire). dueIn v (dueNow s)) (sym here) (state-due s buf))
-        (subst (λ (j : ℕ). Walked i lost (tree s₀ c budget buf₀ acts₀ t₀ mem₀) (heard s₀ c budget buf₀ acts₀ t₀ mem₀) w (talk w j acts t mem)) less wk))
+        (subst (λ (j : ℕ). Walked i lost (tree s₀ c budget buf₀ acts₀ t₀ mem₀) (heard s₀ c budget buf₀ acts₀ t₀ mem₀) w
+          (talk w j acts t mem)) less wk))
       (subst (λ (f : List ℕ). Answers (kindOf c) (lost || lostBy w A) f (follow w A) s′ r′ buf′) kept
         (subst (λ (v : Wire). Answers (kindOf c) (lost || lostBy v A) (s .frame) (follow v A) s′ r′ buf′) (sym here)
           (stepped-at (s .phase) (kindOf c) lost (an .phase ∙ running (kindOf c) lost w due) s A buf s′ r′ buf′ st)))
@@ -135,23 +139,28 @@ module _ (s₀ : Session) (c : SessionCall) (budget : ℕ) (buf₀ : List ℕ) (
     → refusal (isOpen (s₀ .phase)) c (length buf₀) ≡ Pass → (w : Wire) (lost : Bool) → N.Finish e ≡ nextOf w
     → Walked i lost (tree s₀ c budget buf₀ acts₀ t₀ mem₀) (heard s₀ c budget buf₀ acts₀ t₀ mem₀) w (talk w (budget - i) acts t mem)
     → Answers (kindOf c) lost (s₀ .frame) w s r buf
-    → CallRuns (made (x₀ s₀ c budget buf₀ acts₀ t₀ mem₀) (item c budget buf₀) acts₀) (record { session = s; target = t; count = i; ending = e; at = at }) mem buf
+    → CallRuns (made (x₀ s₀ c budget buf₀ acts₀ t₀ mem₀) (item c budget buf₀) acts₀) (record { session = s; target = t; count = i; ending = e; at =
+      at }) mem buf
   finished i acts s r t mem buf e at p (done m o) lost n wk an =
       passed s₀ c budget buf₀ acts₀ t₀ mem₀ p (record { session = s; target = t; count = i; ending = e; at = at }) mem buf lost m (ended o)
       (walk-done acts t mem (budget - i) m o wk) (settles-done s₀ c lost m o s r buf an) cc
   finished i acts s r t mem buf e at p (ask m d f) lost n wk an = let z : _≡_ {A = ℕ} 0 1 = cc in absurd (omega arith)
   finished i acts s r t mem buf e at p (tell m d w) lost n wk an = let z : _≡_ {A = ℕ} 0 1 = cc in absurd (omega arith)
 
-  pub under-finish : (i : ℕ) (acts : List Act) (s : Session) (r : Reply) (t : Target) (mem buf : List ℕ) (e : CallEnding) (at : ℕ) → N.Finish e ≡ r .next
+  pub under-finish : (i : ℕ) (acts : List Act) (s : Session) (r : Reply) (t : Target) (mem buf : List ℕ) (e : CallEnding) (at : ℕ)
+    → N.Finish e ≡ r .next
     → Under i acts s r t mem buf
-    → CallRuns (made (x₀ s₀ c budget buf₀ acts₀ t₀ mem₀) (item c budget buf₀) acts₀) (record { session = s; target = t; count = i; ending = e; at = at }) mem buf
+    → CallRuns (made (x₀ s₀ c budget buf₀ acts₀ t₀ mem₀) (item c budget buf₀) acts₀) (record { session = s; target = t; count = i; ending = e; at =
+      at }) mem buf
   under-finish i acts s r t mem buf e at n (halted x q z h p o) =
       let f : _≡_ {A = NextStep} (N.Finish e) (N.Finish (resultOf (Failed x))) = n ∙ h .next in
-      rw (o, h .lent) (refused s₀ c budget buf₀ acts₀ t₀ mem₀ x q (record { session = s; target = t; count = i; ending = e; at = at }) z (cc) (h .session) p)
+      rw (o, h .lent) (refused s₀ c budget buf₀ acts₀ t₀ mem₀ x q (record { session = s; target = t; count = i; ending = e; at = at }) z (cc)
+        (h .session) p)
   under-finish i acts s r t mem buf e at n (walking p w lost wk an) = finished i acts s r t mem buf e at p w lost (n ∙ an .next) wk an
 
   -- its budget has
-  pub under-spent : (i : ℕ) (acts : List Act) (s : Session) (r : Reply) (t : Target) (mem buf : List ℕ) (x : TransportCall) (at : ℕ) → N.Make x ≡ r .next
+  pub under-spent : (i : ℕ) (acts : List Act) (s : Session) (r : Reply) (t : Target) (mem buf : List ℕ) (x : TransportCall) (at : ℕ)
+    → N.Make x ≡ r .next
     → i ≡ budget → Under i acts s r t mem buf
     → CallRuns (made (x₀ s₀ c budget buf₀ acts₀ t₀ mem₀) (item c budget buf₀) acts₀)
       (record { session = s; target = t; count = i; ending = record { number = 11; value = 0 }; at = at }) mem buf
@@ -159,8 +168,10 @@ module _ (s₀ : Session) (c : SessionCall) (budget : ℕ) (buf₀ : List ℕ) (
       let k : _≡_ {A = NextStep} (N.Make x) (N.Finish (resultOf (Failed y))) = n ∙ h .next in
       let z : _≡_ {A = ℕ} 0 1 = cc in absurd (omega arith)
   under-spent i acts s r t mem buf x at n l (walking p w lost wk an) =
-      passed s₀ c budget buf₀ acts₀ t₀ mem₀ p (record { session = s; target = t; count = i; ending = record { number = 11; value = 0 }; at = at }) mem buf
-      lost (memoryIn w) spent (walk-spent acts t mem w due (subst (λ (j : ℕ). Walked i lost (tree s₀ c budget buf₀ acts₀ t₀ mem₀) (heard s₀ c budget buf₀ acts₀ t₀ mem₀) w (talk w j acts t mem)) none wk))
+      passed s₀ c budget buf₀ acts₀ t₀ mem₀ p (record { session = s; target = t; count = i; ending = record { number = 11; value = 0 }; at = at })
+        mem buf
+      lost (memoryIn w) spent (walk-spent acts t mem w due (subst (λ (j : ℕ). Walked i lost (tree s₀ c budget buf₀ acts₀ t₀ mem₀)
+        (heard s₀ c budget buf₀ acts₀ t₀ mem₀) w (talk w j acts t mem)) none wk))
       (settles-spent s₀ c lost w s r buf due an) refl
     where
       due : Waits w

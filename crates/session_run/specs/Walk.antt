@@ -63,7 +63,8 @@ pub record Arrived (i : ℕ) (lost : Bool) (w₀ : Wire) (k₀ : Talk) (m : Memo
   pub bytes : k₀ .mem ≡ mem
 
 module _ {i : ℕ} {lost : Bool} {w₀ : Wire} {k₀ : Talk} (acts : List Act) (t : Target) (mem : List ℕ) where
-  pub walk-done : (n : ℕ) (m : Memory) (o : Outcome) → Walked i lost w₀ k₀ (done m o) (talk (done m o) n acts t mem) → Arrived i lost w₀ k₀ m (ended o) t mem
+  pub walk-done : (n : ℕ) (m : Memory) (o : Outcome) → Walked i lost w₀ k₀ (done m o) (talk (done m o) n acts t mem)
+    → Arrived i lost w₀ k₀ m (ended o) t mem
   unfolding talk play lostIn
   walk-done n m o h = record {
     count = omega (arith, h .count); memory = h .memory; ending = h .ending; losses = h .losses ∙ or-none lost; target = h .target; bytes = h .mem }

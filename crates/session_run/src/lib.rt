@@ -7,10 +7,11 @@ ghost use Rattle.agreement.specs.Demand3.{made, history};
 ghost use Rattle.session_run.specs.Ran.{moment, item, CallRuns};
 ghost use Rattle.session_run.specs.Items.{codeOf, actsOf, itemsOf, ListRuns};
 ghost use Rattle.session_run.specs.Under.{dueNow};
-ghost use Rattle.session_run.specs.Turn.{Turns};
+ghost use Rattle.session_run.specs.Turn.{Turns, callRan};
+ghost use Rattle.session_run.specs.Listing.{listRan};
 use engine::NextStep;
 use numbers::CallEnding;
-use session::{Reply, Session};
+use session::{Session, SessionAnswer};
 use session_items::Listed;
 use session_rules::SessionCall;
 use target::{Act, Target};
@@ -27,8 +28,7 @@ pub struct CallRan {
 
 // What one transport call leaves.
 pub struct Turned {
-    pub session: Session,
-    pub reply: Reply,
+    pub step: SessionAnswer,
     pub target: Target,
 }
 
@@ -89,42 +89,52 @@ fn turn(s: Session, act: Act, t: Target, mem: &mut [u8], buf: &mut [u8]) -> Turn
     let d = target_line::over_line(t, due(s), act, mem);
     let a = d.answer;
     let left = d.target;
-    let x = session::session_step(s, a, buf);
-    let after = x.session;
-    let reply = x.reply;
-    Turned { session: after, reply: reply, target: left }
+    Turned { step: session::session_step(s, a, buf), target: left }
+}
+
+// What a call leaves after its last turn.
+fn call_ran(last: Turned, count: u32, ending: CallEnding, at: usize) -> CallRan
+    ensures { λ r. ⌜ r ≡ callRan last count ending at ⌝ }
+{
+    let session = last.step.session;
+    let target = last.target;
+    CallRan { session: session, target: target, count: count, ending: ending, at: at }
 }
 
 // One call over target and line under a budget. The line does as `acts` says from place `from` on, and delivers where they end.
 pub fn run_call(s: Session, c: SessionCall, budget: u32, t: Target, acts: &[u32], from: usize, mem: &mut [u8], buf: &mut [u8]) -> CallRan
     ensures { λ r. ⌜ CallRuns (made (moment s t (now (mem .entry))) (item c budget (now (buf .entry))) (actsOf (drop from (now (acts .entry))))) r (now (mem .exit)) (now (buf .exit)) × (actsOf (drop (r .at) (now (acts .entry))) ≡ drop (length (made (moment s t (now (mem .entry))) (item c budget (now (buf .entry))) (actsOf (drop from (now (acts .entry)))) .answers)) (actsOf (drop from (now (acts .entry))))) ⌝ }
 {
-    let first = session::session_start(s, c, buf);
-    let mut session = first.session;
-    let mut reply = first.reply;
-    let mut target = t;
+    let mut last = Turned { step: session::session_start(s, c, buf), target: t };
     let mut at = from;
     let mut i: u32 = 0;
     loop {
+        let reply = last.step.reply;
         let next = reply.next;
         match next {
             NextStep::Finish(e) => {
-                return CallRan { session: session, target: target, count: i, ending: e, at: at };
+                return call_ran(last, i, e, at);
             }
             NextStep::Make(_) => {
                 if budget <= i {
                     let spent = CallEnding { number: 11, value: 0 };
-                    return CallRan { session: session, target: target, count: i, ending: spent, at: at };
+                    return call_ran(last, i, spent, at);
                 }
-                let x = turn(session, act_at(acts, at), target, mem, buf);
-                session = x.session;
-                reply = x.reply;
-                target = x.target;
+                last = turn(last.step.session, act_at(acts, at), last.target, mem, buf);
                 at = next_at(acts, at);
                 i += 1;
             }
         }
     }
+}
+
+// What a list leaves after its last call.
+fn list_ran(last: CallRan, calls: usize) -> ListRan
+    ensures { λ r. ⌜ r ≡ listRan last calls ⌝ }
+{
+    let session = last.session;
+    let target = last.target;
+    ListRan { session: session, target: target, calls: calls }
 }
 
 // The words of a record.
@@ -136,28 +146,23 @@ pub fn run_list(s: Session, items: &[u32], acts: &[u32], t: Target, mem: &mut [u
     ensures { λ r. ⌜ ListRuns (moment s t (now (mem .entry))) (history (moment s t (now (mem .entry))) (itemsOf (now (items .entry)) (now (bytes .entry))) (actsOf (now (acts .entry)))) r (now (mem .exit)) (now (bytes .entry)) (now (bytes .exit)) (now (results .entry)) (now (results .exit)) ⌝ }
 {
     let count = items.len() / ITEM;
-    let mut session = s;
-    let mut target = t;
-    let mut from: usize = 0;
+    let mut last = CallRan { session: s, target: t, count: 0, ending: CallEnding { number: 0, value: 0 }, at: 0 };
     let mut place: usize = 0;
     let mut i: usize = 0;
     while i < count {
         let at = i * ITEM;
         match session_items::call_at(items, at) {
             Listed::Nothing => {
-                return ListRan { session: session, target: target, calls: i };
+                return list_ran(last, i);
             }
             Listed::Call(c) => {
                 let size = fitting(session_items::word_at(items, at + 2), bytes.len() - place);
-                let ran = run_call(session, c, session_items::word_at(items, at + 1), target, acts, from, mem, &mut bytes[place..place + size]);
-                note_result(results, i, ran.ending);
-                session = ran.session;
-                target = ran.target;
-                from = ran.at;
+                last = run_call(last.session, c, session_items::word_at(items, at + 1), last.target, acts, last.at, mem, &mut bytes[place..place + size]);
+                note_result(results, i, last.ending);
                 place += size;
                 i += 1;
             }
         }
     }
-    ListRan { session: session, target: target, calls: i }
+    list_ran(last, i)
 }

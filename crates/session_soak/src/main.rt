@@ -2,8 +2,8 @@
 // by execution after every call. The theorem says as much of every list; this shows that the code under it runs, and how often.
 // It prints how many lists, calls, refusals and losses it saw, and how many checks failed.
 ghost use Prim.Native.Nat.{_≤_};
-use calls_core::CoreCall;
-use calls_fpb::FpbCall;
+use core::CoreCall;
+use fpb::FpbCall;
 use engine::NextStep;
 use numbers::{CallEnding, TransportCall};
 use session::{Reply, Session, SessionAnswer};

@@ -250,7 +250,7 @@ fn connected() -> [u32; 44] {
     items
 }
 
-// `count` acts from `from` on are `code`; a connect makes twelve transport calls.
+// `count` acts from `from` on are `code`. A connect makes twelve transport calls.
 fn acts_of(from: usize, count: usize, code: u32) -> [u32; 96] {
     let mut acts = [0u32; 96];
     let mut left: usize = 96;
@@ -308,8 +308,10 @@ fn run(items: &[u32], acts: &[u32], bytes: &mut [u8], results: &mut [u64]) -> Le
     Left { calls: r.calls, open: session::open(r.session) }
 }
 
-// Prints the results of a list, whether the session is open, and the first bytes of its buffers.
-fn list(title: &[u8], items: &[u32; 44], acts: [u32; 96], shown: usize) {
+// Prints the results of a list, whether the session is open, and the first bytes of its buffers. The line does `code` for `count`
+// transport calls from call `from` on, and delivers the others.
+fn list(title: &[u8], items: &[u32; 44], from: usize, count: usize, code: u32, shown: usize) {
+    let acts = acts_of(from, count, code);
     let mut bytes = [0x11u8, 0x22, 0x33, 0x44, 0x55, 0x66, 0x77, 0x88, 0, 0, 0, 0, 0, 0, 0, 0];
     let mut results = [0u64; 4];
     let r = run(items, &acts, &mut bytes, &mut results);
@@ -324,81 +326,83 @@ fn list(title: &[u8], items: &[u32; 44], acts: [u32; 96], shown: usize) {
     show_open(r.open);
 }
 
+// The same over a line that delivers all.
+fn quiet(title: &[u8], items: &[u32; 44], shown: usize) {
+    list(title, items, 0, 0, 0, shown);
+}
+
 fn refusals() {
-    let quiet = acts_of(0, 0, 0);
     let mut items = [0u32; 44];
     call(&mut items, 0, 9, ENOUGH, 0, HOURS, 0);
-    list(b"a read before any connect", &items, quiet, 0);
+    quiet(b"a read before any connect", &items, 0);
     call(&mut items, 0, 9, 0, 0, 0x20000001, 0);
-    list(b"the same, misaligned, with no budget", &items, quiet, 0);
+    quiet(b"the same, misaligned, with no budget", &items, 0);
     items = connected();
     call(&mut items, 11, 9, 0, 0, 0x20000001, 0);
-    list(b"misaligned, with no budget", &items, quiet, 0);
+    quiet(b"misaligned, with no budget", &items, 0);
     call(&mut items, 11, 13, 0, 4, 0xFFFFFFFC, 0);
-    list(b"four bytes at 0xFFFFFFFC", &items, quiet, 0);
+    quiet(b"four bytes at 0xFFFFFFFC", &items, 0);
     call(&mut items, 11, 13, ENOUGH, 3, 0xFFFFFFFC, 0);
-    list(b"three bytes there, outside memory", &items, quiet, 0);
+    quiet(b"three bytes there, outside memory", &items, 0);
     call(&mut items, 11, 13, 0, 0, HOURS, 0);
-    list(b"an empty read with no budget", &items, quiet, 0);
+    quiet(b"an empty read with no budget", &items, 0);
 }
 
 fn words() {
-    let quiet = acts_of(0, 0, 0);
     let mut items = connected();
     call(&mut items, 11, 10, ENOUGH, 0, HOURS, 0x3039);
     call(&mut items, 22, 9, ENOUGH, 0, HOURS, 0);
-    list(b"a word written and read", &items, quiet, 0);
+    quiet(b"a word written and read", &items, 0);
     call(&mut items, 11, 14, ENOUGH, 6, 0x20000003, 0);
     call(&mut items, 22, 13, ENOUGH, 6, 0x20000003, 0);
-    list(b"six bytes written across words and read", &items, quiet, 12);
+    quiet(b"six bytes written across words and read", &items, 12);
     call(&mut items, 11, 14, ENOUGH, 8, 0x200003FC, 0);
     call(&mut items, 22, 13, ENOUGH, 4, 0x200003FC, 0);
-    list(b"eight bytes written, four of them past the end", &items, quiet, 12);
+    quiet(b"eight bytes written, four of them past the end", &items, 12);
     call(&mut items, 11, 9, ENOUGH, 0, 0x30000000, 0);
     call(&mut items, 22, 9, ENOUGH, 0, HOURS, 0);
-    list(b"a read outside memory, FAULT, and one inside", &items, quiet, 0);
+    quiet(b"a read outside memory, FAULT, and one inside", &items, 0);
 }
 
 fn waits() {
     let mut items = connected();
     call(&mut items, 11, 9, ENOUGH, 0, HOURS, 0);
     call(&mut items, 22, 9, ENOUGH, 0, HOURS, 0);
-    list(b"64 WAITs", &items, acts_of(12, 64, WAIT), 0);
-    list(b"65 WAITs", &items, acts_of(12, 65, WAIT), 0);
+    list(b"64 WAITs", &items, 12, 64, WAIT, 0);
+    list(b"65 WAITs", &items, 12, 65, WAIT, 0);
 }
 
 fn losses() {
     let mut items = connected();
     call(&mut items, 11, 9, ENOUGH, 0, HOURS, 0);
     call(&mut items, 22, 9, ENOUGH, 0, HOURS, 0);
-    list(b"the answer to CSW lost", &items, acts_of(12, 1, LOST), 0);
-    list(b"CSW not sent", &items, acts_of(12, 1, UNSENT), 0);
-    list(b"a read's last answer lost", &items, acts_of(15, 1, LOST), 0);
-    list(b"SELECT not sent", &items, acts_of(8, 1, UNSENT), 0);
-    list(b"WAIT for a line reset", &items, acts_of(1, 1, WAIT), 0);
+    list(b"the answer to CSW lost", &items, 12, 1, LOST, 0);
+    list(b"CSW not sent", &items, 12, 1, UNSENT, 0);
+    list(b"a read's last answer lost", &items, 15, 1, LOST, 0);
+    list(b"SELECT not sent", &items, 8, 1, UNSENT, 0);
+    list(b"WAIT for a line reset", &items, 1, 1, WAIT, 0);
     call(&mut items, 11, 9, ENOUGH, 0, 0x30000000, 0);
-    list(b"FAULT, and its ABORT lost", &items, acts_of(16, 1, UNSENT), 0);
+    list(b"FAULT, and its ABORT lost", &items, 16, 1, UNSENT, 0);
     call(&mut items, 11, 3, ENOUGH, 0, 0, 0);
-    list(b"a second connect, lost at once", &items, acts_of(12, 1, UNSENT), 0);
+    list(b"a second connect, lost at once", &items, 12, 1, UNSENT, 0);
     call(&mut items, 11, 24, ENOUGH, 0, 2, 0);
-    list(b"call 24: a loss in its wait, then FAULT", &items, acts_of(13, 1, UNSENT), 0);
+    list(b"call 24: a loss in its wait, then FAULT", &items, 13, 1, UNSENT, 0);
 }
 
 fn spent() {
-    let quiet = acts_of(0, 0, 0);
     let mut items = connected();
     call(&mut items, 11, 9, 3, 0, HOURS, 0);
     call(&mut items, 22, 9, ENOUGH, 0, HOURS, 0);
-    list(b"a read that needs four transport calls, with three", &items, quiet, 0);
+    quiet(b"a read that needs four transport calls, with three", &items, 0);
     call(&mut items, 11, 9, 4, 0, HOURS, 0);
-    list(b"with four", &items, quiet, 0);
+    quiet(b"with four", &items, 0);
     call(&mut items, 0, 3, 11, 0, 0, 0);
-    list(b"a connect that needs twelve, with eleven", &items, quiet, 0);
+    quiet(b"a connect that needs twelve, with eleven", &items, 0);
     items = connected();
     call(&mut items, 11, 14, ENOUGH, 8, HOURS, 0);
     call(&mut items, 22, 3, ENOUGH, 0, 0, 0);
     call(&mut items, 33, 13, ENOUGH, 8, HOURS, 0);
-    list(b"a write lost at its second word, connect, read back", &items, acts_of(15, 1, LOST), 16);
+    list(b"a write lost at its second word, connect, read back", &items, 15, 1, LOST, 16);
 }
 
 fn main() {

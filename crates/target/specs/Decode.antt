@@ -31,7 +31,8 @@ rows =
     -- 0x8 to 0xB: at 0x8
     everywhere (Dp D.SelectWrite) ∷ everywhere (Ap A.OtherWrite) ∷ everywhere (Dp D.OtherRead) ∷ everywhere (Ap A.OtherRead) ∷
     -- 0xC to 0xF: at 0xC
-    everywhere (Dp D.OtherWrite) ∷ banked (Ap A.DrwWrite) (Ap A.OtherWrite) ∷ everywhere (Dp D.RdbuffRead) ∷ banked (Ap A.DrwRead) (Ap A.OtherRead) ∷ []
+    everywhere (Dp D.OtherWrite) ∷ banked (Ap A.DrwWrite) (Ap A.OtherWrite) ∷ everywhere (Dp D.RdbuffRead) ∷ banked (Ap A.DrwRead)
+        (Ap A.OtherRead) ∷ []
 
 abbrev pub atBank : Row → ℕ → Register
 atBank (everywhere r) bank = r

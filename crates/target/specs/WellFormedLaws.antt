@@ -98,7 +98,8 @@ lasts-ap A.CswWrite t m w = stays m
 lasts-ap A.CswRead t m w = stays m
 lasts-ap A.TarWrite t m w = stays m
 lasts-ap A.TarRead t m w = stays m
-lasts-ap A.DrwWrite t m w = either (λ (n : List ℕ). Lasts m n) (inMemory t m (wordAddress t)) (λ _. lasts-put m (wordAddress t - t .base) w) (λ _. stays m)
+lasts-ap A.DrwWrite t m w = either (λ (n : List ℕ). Lasts m n) (inMemory t m (wordAddress t)) (λ _. lasts-put m (wordAddress t - t .base) w)
+    (λ _. stays m)
 lasts-ap A.DrwRead t m w = stays m
 lasts-ap A.OtherRead t m w = stays m
 lasts-ap A.OtherWrite t m w = stays m

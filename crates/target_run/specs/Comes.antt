@@ -44,7 +44,8 @@ led-more i l₀ l h₀ h p k q j c a e f x =
 
 -- How far a run has come: what comes next, what is remembered, the words and the buffer report a tree, and the run and the talk of
 -- this tree are what is left.
-pub record Comes (w₀ : Wire) (k₀ : Talk) (budget : ℕ) (xs : List ℕ) (i : ℕ) (s : State) (n : NextStep) (t : Target) (mem ws buf l₀ l h₀ h : List ℕ) : Type 0 where
+pub record Comes (w₀ : Wire) (k₀ : Talk) (budget : ℕ) (xs : List ℕ) (i : ℕ) (s : State) (n : NextStep) (t : Target)
+    (mem ws buf l₀ l h₀ h : List ℕ) : Type 0 where
   pub tree : Wire
   pub next : n ≡ nextOf tree
   pub memory : memoryOf (s .remembered) ws buf ≡ memoryIn tree
@@ -57,7 +58,8 @@ comes-start w a budget xs t mem ws buf l h x =
     let k : Talk = talk w budget (map actOf xs) t mem in
     let all : budget ≡ budget - 0 = omega arith in
     record { tree = w; next = x .next; memory = x .memory; stands = x .tree;
-      led = subst (λ (n : ℕ). Led 0 l l h h (play w (k .answers)) k (play w (talk w n (actsFrom xs 0) t mem .answers)) (talk w n (actsFrom xs 0) t mem)) all
+      led = subst (λ (n : ℕ). Led 0 l l h h (play w (k .answers)) k (play w (talk w n (actsFrom xs 0) t mem .answers)) (talk w n
+        (actsFrom xs 0) t mem)) all
         (record { along = along-none l _; target = refl; mem = refl; heard = refl; legible = λ r. r }) }
 
 abbrev pub Making : NextStep → Type 0
@@ -74,14 +76,18 @@ pub due-tree : (w : Wire) (n : NextStep) (c : TransportCall) (v : Wire) → n �
 due-tree w n c v e h f = f (waits w (subst Making (sym h ∙ e) tt))
 
 -- one turn of the run and the talk of a state's tree
-pub led-turn : (s : State) (ws b : List ℕ) (budget : ℕ) (xs : List ℕ) (i : ℕ) (t : Target) (mem : List ℕ) (act : Act) (l₀ l h₀ h : List ℕ) (p : Played) (k : Talk)
+pub led-turn : (s : State) (ws b : List ℕ) (budget : ℕ) (xs : List ℕ) (i : ℕ) (t : Target) (mem : List ℕ) (act : Act) (l₀ l h₀ h : List ℕ)
+    (p : Played) (k : Talk)
   → i < budget → act ≡ actOf (getD xs i 0) → callOf (codeOf (dueIn s)) ≡ dueIn s
   → answerOf (answerCode (line t mem (dueIn s) act .answer)) ≡ line t mem (dueIn s) act .answer
-  → Led i l₀ l h₀ h p k (play (stateTree s ws b) (leftTalk (stateTree s ws b) budget xs i t mem .answers)) (leftTalk (stateTree s ws b) budget xs i t mem)
+  → Led i l₀ l h₀ h p k (play (stateTree s ws b) (leftTalk (stateTree s ws b) budget xs i t mem .answers)) (leftTalk
+    (stateTree s ws b) budget xs i t mem)
   → Led (i + 1) l₀ (set l i (codeOf (dueIn s))) h₀ (set h i (answerCode (line t mem (dueIn s) act .answer))) p k
       (play (follow (stateTree s ws b) (line t mem (dueIn s) act .answer))
-        (leftTalk (follow (stateTree s ws b) (line t mem (dueIn s) act .answer)) budget xs (i + 1) (line t mem (dueIn s) act .target) (line t mem (dueIn s) act .mem) .answers))
-      (leftTalk (follow (stateTree s ws b) (line t mem (dueIn s) act .answer)) budget xs (i + 1) (line t mem (dueIn s) act .target) (line t mem (dueIn s) act .mem))
+        (leftTalk (follow (stateTree s ws b) (line t mem (dueIn s) act .answer)) budget xs (i + 1) (line t mem (dueIn s) act .target) (line t mem
+          (dueIn s) act .mem) .answers))
+      (leftTalk (follow (stateTree s ws b) (line t mem (dueIn s) act .answer)) budget xs (i + 1) (line t mem (dueIn s) act .target) (line t mem
+        (dueIn s) act .mem))
 led-turn s ws b budget xs i t mem act l₀ l h₀ h p k lt e r q x =
     let w : Wire = stateTree s ws b in
     let a : Answer = line t mem (dueIn s) act .answer in

@@ -60,7 +60,8 @@ abbrev endingIn : NextStep → CallEnding → CallEnding
 endingIn (N.Make c) d = d
 endingIn (N.Finish e) d = e
 
-done-left : (w₀ : Wire) (k₀ : Talk) (budget : ℕ) (xs : List ℕ) (i : ℕ) (r : Remembered) (e : CallEnding) (t : Target) (mem ws buf l₀ l h₀ h : List ℕ) (w : Wire)
+done-left : (w₀ : Wire) (k₀ : Talk) (budget : ℕ) (xs : List ℕ) (i : ℕ) (r : Remembered) (e : CallEnding) (t : Target)
+    (mem ws buf l₀ l h₀ h : List ℕ) (w : Wire)
   → N.Finish e ≡ nextOf w → memoryOf r ws buf ≡ memoryIn w
   → Led i l₀ l h₀ h (play w₀ (k₀ .answers)) k₀ (play w (leftTalk w budget xs i t mem .answers)) (leftTalk w budget xs i t mem)
   → OverAs w₀ k₀ (record { ran = record { count = i; ending = e; remembered = r }; target = t }) ws buf l₀ l h₀ h mem
@@ -69,20 +70,23 @@ done-left w₀ k₀ budget xs i r e t mem ws buf l₀ l h₀ h (done m o) n y x 
     let at = subst (λ (z : Talk). Led i l₀ l h₀ h p k₀ (play (done m o) (z .answers)) z) (talk-done m o (budget - i) (actsFrom xs i) t mem) x in
     let al = subst (λ (z : Memory). Along i l₀ l p (play (done z o) [])) (sym y) (at .along) in
     nothing-left i l₀ l h₀ h w₀ k₀ (play (done m o) []) t mem ws buf (record { count = i; ending = e; remembered = r }) at
-    (subst (λ (z : CallEnding). Reports p (record { count = i; ending = z; remembered = r }) ws buf l₀ l) (sym (ap (λ (z : NextStep). endingIn z e) n))
+    (subst (λ (z : CallEnding). Reports p (record { count = i; ending = z; remembered = r }) ws buf l₀ l) (sym (ap (λ
+      (z : NextStep). endingIn z e) n))
     (ended-at i l₀ l p r ws buf o [] al))
 done-left w₀ k₀ budget xs i r e t mem ws buf l₀ l h₀ h (ask m c f) n y x = absurd (subst Making (sym n) tt)
 done-left w₀ k₀ budget xs i r e t mem ws buf l₀ l h₀ h (tell m c w) n y x = absurd (subst Making (sym n) tt)
 
 -- the call has ended
-pub comes-done : (w₀ : Wire) (k₀ : Talk) (budget : ℕ) (xs : List ℕ) (i : ℕ) (s : State) (n : NextStep) (t : Target) (mem ws buf l₀ l h₀ h : List ℕ) (e : CallEnding)
+pub comes-done : (w₀ : Wire) (k₀ : Talk) (budget : ℕ) (xs : List ℕ) (i : ℕ) (s : State) (n : NextStep) (t : Target) (mem ws buf l₀ l h₀ h : List ℕ)
+    (e : CallEnding)
   → n ≡ N.Finish e → Comes w₀ k₀ budget xs i s n t mem ws buf l₀ l h₀ h
   → OverAs w₀ k₀ (record { ran = record { count = i; ending = e; remembered = s .remembered }; target = t }) ws buf l₀ l h₀ h mem
 comes-done w₀ k₀ budget xs i s n t mem ws buf l₀ l h₀ h e f y =
     done-left w₀ k₀ budget xs i (s .remembered) e t mem ws buf l₀ l h₀ h (y .tree) (sym f ∙ y .next) (y .memory) (y .led)
 
 -- the budget is spent
-pub comes-spent : (w₀ : Wire) (k₀ : Talk) (budget : ℕ) (xs : List ℕ) (i : ℕ) (s : State) (n : NextStep) (t : Target) (mem ws buf l₀ l h₀ h : List ℕ) (c : TransportCall)
+pub comes-spent : (w₀ : Wire) (k₀ : Talk) (budget : ℕ) (xs : List ℕ) (i : ℕ) (s : State) (n : NextStep) (t : Target) (mem ws buf l₀ l h₀ h : List ℕ)
+    (c : TransportCall)
   → budget ≤ i → n ≡ N.Make c → Comes w₀ k₀ budget xs i s n t mem ws buf l₀ l h₀ h
   → OverAs w₀ k₀ (record { ran = record { count = i; ending = endingOf spent; remembered = s .remembered }; target = t }) ws buf l₀ l h₀ h mem
 comes-spent w₀ k₀ budget xs i s n t mem ws buf l₀ l h₀ h c le mk y =
@@ -105,7 +109,8 @@ own-kept (C.Core c) row words e = absurd (true≢false e)
 own-kept (C.Fpb c) row words e = refl
 own-kept (C.Nrf c) row words e = refl
 
-over-lent : (c : EngineCall) (own : Bool) (f : Frame) (p : Played) (r : Ran) (row words words₀ row₀ left b l₀ l : List ℕ) → own ≡ lent c → f ≡ frameFor c
+over-lent : (c : EngineCall) (own : Bool) (f : Frame) (p : Played) (r : Ran) (row words words₀ row₀ left b l₀ l : List ℕ) → own ≡ lent c
+    → f ≡ frameFor c
   → pick own row words ≡ pick own row₀ words₀ → left ≡ leave f row words → Reports p r (pick own words row) b l₀ l → RanAs c p r words₀ left b l₀ l
 over-lent c true f p r row words words₀ row₀ left b l₀ l e g o k h =
     subst (λ (z : List ℕ). RanAs c p r words₀ z b l₀ l) (sym (k ∙ ap (λ (f : Frame). leave f row words) g ∙ own-kept c row words e))

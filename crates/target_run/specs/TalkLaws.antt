@@ -64,14 +64,16 @@ talk-none D.Raw m f k acts t mem = refl
 abbrev pub leftTalk : Wire → ℕ → List ℕ → ℕ → Target → List ℕ → Talk
 leftTalk w budget xs i t mem = talk w (budget - i) (actsFrom xs i) t mem
 
-pub talk-turn : (s : State) (ws b : List ℕ) (budget : ℕ) (xs : List ℕ) (i : ℕ) (t : Target) (mem : List ℕ) (act : Act) → i < budget → act ≡ actOf (getD xs i 0)
+pub talk-turn : (s : State) (ws b : List ℕ) (budget : ℕ) (xs : List ℕ) (i : ℕ) (t : Target) (mem : List ℕ) (act : Act) → i < budget
+    → act ≡ actOf (getD xs i 0)
   → leftTalk (stateTree s ws b) budget xs i t mem ≡ thenTalk (follow (stateTree s ws b)) (budget - (i + 1)) (actsFrom xs (i + 1)) t mem (dueIn s) act
 talk-turn s ws b budget xs i t mem act h e =
     let n : budget - i ≡ suc (budget - (i + 1)) = omega arith in
     let w : Wire = stateTree s ws b in
     ap (λ (n : ℕ). talk w n (actsFrom xs i) t mem) n
     ∙ talk-flight (s .started .launched .transfer .mode) _ (s .started .launched .transfer) _ (budget - (i + 1)) (actsFrom xs i) t mem
-    ∙ ap (λ (z : List Act). thenTalk (follow w) (budget - (i + 1)) z t mem (dueIn s) (actNow (actsFrom xs i))) (acts-then xs i ∙ ap (actsFrom xs) (sym (add-one i)))
+    ∙ ap (λ (z : List Act). thenTalk (follow w) (budget - (i + 1)) z t mem (dueIn s) (actNow (actsFrom xs i))) (acts-then xs i
+      ∙ ap (actsFrom xs) (sym (add-one i)))
     ∙ ap (λ (z : Act). thenTalk (follow w) (budget - (i + 1)) (actsFrom xs (i + 1)) t mem (dueIn s) z) (act-now xs i ∙ sym e)
 
 pub talk-done : (m : Memory) (o : Outcome) (n : ℕ) (acts : List Act) (t : Target) (mem : List ℕ) → talk (done m o) n acts t mem ≡ silent t mem

@@ -86,22 +86,22 @@ fn turn(s: State, i: u32, act: Act, t: Target, mem: &mut [u8], row: &mut [u32; 6
     numbers::note(log, i, c);
     let d = target_line::over_line(t, c, act, mem);
     let a = d.answer;
-    let u = d.target;
     hear(heard, i, a);
-    let x = engine::step(s, a, row, words, buf);
-    Turned { step: x, target: u }
+    let u = d.target;
+    Turned { step: engine::step(s, a, row, words, buf), target: u }
 }
 
 // From a step's answer on to the end, or to where the budget is spent.
 fn drive(first: StepAnswer, budget: u32, acts: &[u32], before: Target, mem: &mut [u8], row: &mut [u32; 64], words: &mut [u32], buf: &mut [u8], log: &mut [u64], heard: &mut [u64]) -> TargetRan
     ensures { λ x. ⌜ Drives first budget (now (acts .entry)) before (now (mem .entry)) (now (row .entry)) (now (words .entry)) (now (buf .entry)) (now (log .entry)) (now (heard .entry)) x (now (mem .exit)) (now (row .exit)) (now (words .exit)) (now (buf .exit)) (now (log .exit)) (now (heard .exit)) ⌝ }
 {
-    let mut s = first.state;
-    let mut n = first.next;
-    let mut t = before;
+    let mut last = Turned { step: first, target: before };
     let mut i: u32 = 0;
     loop {
-        let r = s.remembered;
+        let a = last.step;
+        let n = a.next;
+        let r = a.state.remembered;
+        let t = last.target;
         match n {
             NextStep::Finish(e) => {
                 return TargetRan { ran: Ran { count: i, ending: e, remembered: r }, target: t };
@@ -110,12 +110,7 @@ fn drive(first: StepAnswer, budget: u32, acts: &[u32], before: Target, mem: &mut
                 if budget <= i {
                     return TargetRan { ran: Ran { count: i, ending: CallEnding { number: 11, value: 0 }, remembered: r }, target: t };
                 }
-                let act = act_of(memap::word_at(acts, i));
-                let x = turn(s, i, act, t, mem, row, words, buf, log, heard);
-                let a = x.step;
-                s = a.state;
-                n = a.next;
-                t = x.target;
+                last = turn(a.state, i, act_of(memap::word_at(acts, i)), t, mem, row, words, buf, log, heard);
                 i += 1;
             }
         }

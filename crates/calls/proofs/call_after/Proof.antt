@@ -7,7 +7,9 @@ use Rattle.calls.proofs.call_after.Tie as tie
 pub call-after-spec : {M : Type 1} → statement M
 call-after-spec =
     tie.close (tie.spec
-    (λ c. search needs) (λ c κs. search needs) (λ c κs. search needs) (λ c. search needs) (λ c κs. search needs) (λ c κs. search needs) (λ c. search needs) (λ c κs. search needs) (λ c κs. search needs) (λ c. search needs) (λ c κs. search needs) (λ c κs. search needs) (λ c. search needs) (λ c κs. search needs) (λ c κs. search needs)
+    (λ c. search needs) (λ c κs. search needs) (λ c κs. search needs) (λ c. search needs) (λ c κs. search needs) (λ c κs. search needs)
+      (λ c. search needs) (λ c κs. search needs) (λ c κs. search needs) (λ c. search needs) (λ c κs. search needs) (λ c κs. search needs)
+      (λ c. search needs) (λ c κs. search needs) (λ c κs. search needs)
     (λ c. simp (c .before .before .before .p .given .1) (c .before .call-after .ensures ∙ c .connect-asks .ensures))
     (λ c. simp (c .before .before .before .p2 .given .1) (c .before .call-after2 .ensures ∙ c .memory-asks .ensures))
     (λ c. simp (c .before .before .before .p3 .given .1) (c .before .call-after3 .ensures ∙ c .core-asks .ensures))

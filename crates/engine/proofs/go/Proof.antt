@@ -12,7 +12,8 @@ use Rattle.engine.proofs.go.Tie as tie
 pub go-spec : {M : Type 1} → statement M
 go-spec = tie.close (tie.spec
     (λ c κs. search needs) (λ c κs. search needs) (λ c κs. search needs)
-    (λ c. ((λ ws b. let t = c .before .before .before .args .s .launched .transfer in let f = flight-due (t .mode) _ t _ in let e = c .before .before .due .ensures in
+    (λ c. ((λ ws b. let t = c .before .before .before .args .s .launched .transfer in let f = flight-due (t .mode) _ t _ in let e = c .before .before
+      .due .ensures in
       record {
         next = ap N.Make (c .before .numbers-of .ensures ∙ ap numbersOf e) ∙ f .next;
         bytes = c .bytes-of .ensures ∙ ap (λ (x : Call). padded (handed x)) e ∙ ap padded (f .bytes);

@@ -7,4 +7,7 @@ use Rattle.engine.proofs.step.Tie as tie
 pub step-spec : {M : Type 1} → statement M
 step-spec =
     tie.close (tie.spec
-    (λ c κs. search needs) (λ c. search needs) (λ c. search needs) (λ c. let x = c .before .before .before .before .step-over .ensures in let own = c .before .before .before .before .before .before .before .if1 .taken in simp own (record { steps = x .0; other = refl; whose = x .1 ∙ own })) (λ c κs. search needs) (λ c. search needs) (λ c. let x = c .before .before .step-over2 .ensures in let own = c .before .before .before .before .before .if1 .left in simp own (record { steps = x .0; other = refl; whose = x .1 ∙ own })))
+    (λ c κs. search needs) (λ c. search needs) (λ c. search needs) (λ c. let x = c .before .before .before .before .step-over .ensures in let own = c
+      .before .before .before .before .before .before .before .if1 .taken in simp own (record { steps = x .0; other = refl; whose = x .1
+      ∙ own })) (λ c κs. search needs) (λ c. search needs) (λ c. let x = c .before .before .step-over2 .ensures in let own = c .before .before
+      .before .before .before .if1 .left in simp own (record { steps = x .0; other = refl; whose = x .1 ∙ own })))

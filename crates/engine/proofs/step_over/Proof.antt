@@ -10,6 +10,9 @@ step-over-spec =
     tie.close (tie.spec
     (λ c κs. search needs) (λ c. search needs) (λ c κs. search needs) (λ c. search needs) (λ c κs. search needs) (λ c κs. search needs)
     (λ c. search needs)
-    (λ c. simp (c .before .before .before .before .before .before .op-step .ensures) (simp (c .before .before .r2 .given .1) (c .go .ensures .0 _ _, c .go .ensures .1)))
+    (λ c. simp (c .before .before .before .before .before .before .op-step .ensures) (simp (c .before .before .r2 .given .1)
+      (c .go .ensures .0 _ _, c .go .ensures .1)))
     (λ c. search needs) (λ c. search needs)
-    (λ c. simp (c .before .before .before .before .before .before .before .before .before .before .before .before .before .op-step .ensures) (simp (c .before .before .before .before .before .before .before .before .before .r22 .given .1) (simp (then-is) (simp (c .before .before .before .before .before .before .before .call-after .ensures) (c .before .before .before .before .asked .ensures))))))
+    (λ c. simp (c .before .before .before .before .before .before .before .before .before .before .before .before .before .op-step .ensures) (simp
+      (c .before .before .before .before .before .before .before .before .before .r22 .given .1) (simp (then-is) (simp
+      (c .before .before .before .before .before .before .before .call-after .ensures) (c .before .before .before .before .asked .ensures))))))

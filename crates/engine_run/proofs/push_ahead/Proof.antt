@@ -35,10 +35,15 @@ push-ahead-spec =
     (λ c. let b11 = c .before .before .before .before .before .before .before .before .before .before .before in let b16 = b11 .before .before .before
       .before .before in record { fits = omega (arith, b11 .loop-test .taken, b16 .fits .limit .fits) })
     (λ c. omega (arith, c .before .before .before .before .before .before .before .before .before .before .before .loop-test .taken))
-    (λ c. let b4 = c .before .before .before .before in let b5 = b4 .before in let b6 = b5 .before in let b8 = b6 .before .before in let b10 = b8 .before
-      .before in let b11 = b10 .before in let b12 = b11 .before in let b16 = b12 .before .before .before .before in let l = b12 .loop in let a = b16 .args
-      in (omega (arith, l .inv .0), c .before .before .note .kept .0 ∙ l .inv .1, λ r buf k l₀ p h. along-push (a .last) (l .n) r (a .ws .now) buf k (a
-      .limit) (a .answers .now) (l .i) l₀ (l .log) p _ _ _ (b11 .loop-test .taken) (b16 .pre) (b10 .if1 .left) (c .before .before .note .ensures) (sym (b6
-      .enum-told .given .1) ∙ b8 .answer-of .ensures) (b4 .word-at .ensures ∙ ap (λ (j : ℕ). getD (a .ws .now) j 0) (b5 .minus .ensures)) (l .inv .2 r buf
+    (λ c. let b4 = c .before .before .before .before in let b5 = b4 .before in let b6 = b5 .before in let b8 = b6 .before .before in let b10 = b8
+      .before
+      .before in let b11 = b10 .before in let b12 = b11 .before in let b16 = b12 .before .before .before .before in let l = b12 .loop in let a = b16
+        .args
+      in (omega (arith, l .inv .0), c .before .before .note .kept .0 ∙ l .inv .1, λ r buf k l₀ p h. along-push (a .last) (l .n) r (a .ws .now) buf k
+        (a
+      .limit) (a .answers .now) (l .i) l₀ (l .log) p _ _ _ (b11 .loop-test .taken) (b16 .pre) (b10 .if1 .left) (c .before .before .note .ensures)
+        (sym (b6
+      .enum-told .given .1) ∙ b8 .answer-of .ensures) (b4 .word-at .ensures ∙ ap (λ (j : ℕ). getD (a .ws .now) j 0) (b5 .minus .ensures))
+        (l .inv .2 r buf
       k l₀ p h)))
     (λ c. c .before .loop .inv .1) (λ c. (c .before .loop .inv .0, c .before .loop .inv .2)))

@@ -31,18 +31,26 @@ run-flight-spec =
       (arith, b7 .loop-test .taken, b11 .fits .limit .fits) })
     (λ c κs. search needs) (λ c. search needs)
     (λ c. omega (arith, c .before .before .before .before .before .before .before .before .before .before .before .loop-test .taken))
-    (λ c. let b3 = c .before .before .before in let b4 = b3 .before in let b8 = b4 .before .before .before .before in let b9 = b8 .before in let b11 = b9
-      .before .before in let b12 = b11 .before in let b15 = b12 .before .before .before in let l = b12 .loop in let a = b15 .args in (omega (arith, l .inv
-      .0), b8 .note .kept .0 ∙ l .inv .1, λ m k l₀ p h. along-step (l .t) m k (a .limit) (a .answers .now) (l .i) l₀ (l .log) p _ _ _ _ (b11 .loop-test
-      .taken) (b15 .pre) (b9 .due .ensures) (b8 .note .ensures) (b4 .answer-of .ensures) (simp (c .before .t2 .given .1) at (b3 .transfer-step .ensures m
+    (λ c. let b3 = c .before .before .before in let b4 = b3 .before in let b8 = b4 .before .before .before .before in let b9 = b8 .before in let b11
+      = b9
+      .before .before in let b12 = b11 .before in let b15 = b12 .before .before .before in let l = b12 .loop in let a = b15 .args in (omega
+        (arith, l .inv
+      .0), b8 .note .kept .0 ∙ l .inv .1, λ m k l₀ p h. along-step (l .t) m k (a .limit) (a .answers .now) (l .i) l₀ (l .log) p _ _ _ _
+        (b11 .loop-test
+      .taken) (b15 .pre) (b9 .due .ensures) (b8 .note .ensures) (b4 .answer-of .ensures) (simp (c .before .t2 .given .1) at
+        (b3 .transfer-step .ensures m
       k)) (l .inv .2 m k l₀ p h)))
     (λ c. search needs)
-    (λ c. let b8 = c .before .before .before .before .before .before .before .before in let b12 = b8 .before .before .before .before in b8 .note .kept .0
+    (λ c. let b8 = c .before .before .before .before .before .before .before .before in let b12 = b8 .before .before .before .before in b8 .note
+      .kept .0
       ∙ b12 .loop .inv .1)
-    (λ c. let b3 = c .before .before .before in let b4 = b3 .before in let b8 = b4 .before .before .before .before in let b9 = b8 .before in let b11 = b9
+    (λ c. let b3 = c .before .before .before in let b4 = b3 .before in let b8 = b4 .before .before .before .before in let b9 = b8 .before in let b11
+      = b9
       .before .before in let b12 = b11 .before in let b15 = b12 .before .before .before in let l = b12 .loop in let a = b15 .args in ((omega (arith, l
-      .inv .0), omega (arith, b11 .loop-test .taken)), λ m k l₀ p h. along-step (l .t) m k (a .limit) (a .answers .now) (l .i) l₀ (l .log) p _ _ _ _ (b11
-      .loop-test .taken) (b15 .pre) (b9 .due .ensures) (b8 .note .ensures) (b4 .answer-of .ensures) (simp (c .before .o .given .1) at (b3 .transfer-step
+      .inv .0), omega (arith, b11 .loop-test .taken)), λ m k l₀ p h. along-step (l .t) m k (a .limit) (a .answers .now) (l .i) l₀ (l .log) p _ _ _ _
+        (b11
+      .loop-test .taken) (b15 .pre) (b9 .due .ensures) (b8 .note .ensures) (b4 .answer-of .ensures) (simp (c .before .o .given .1) at
+        (b3 .transfer-step
       .ensures m k)) (l .inv .2 m k l₀ p h)))
     (λ c. c .before .loop .inv .1)
     (λ c. let l = c .before .loop in let a = c .before .before .before .before .args in (tt, λ m k l₀ p h. along-out (l .t) m k (a .limit) (a .answers

@@ -11,13 +11,18 @@ run-transfer-spec =
     tie.close (tie.spec
     (λ c. search needs) (λ c. search needs) (λ c κs. search needs) (λ c. search needs) (λ c. search needs) (λ c κs. search needs) (λ c. search needs)
     (λ c. search needs)
-    (λ c. let b4 = c .before .before .before .before in let b7 = b4 .before .before .before in let b9 = b7 .before .before in let b11 = b9 .before .before
-      in let b14 = b11 .before .before .before in ((omega arith, omega (arith, b11 .if1 .taken)), λ m k l₀ p h. let a = b14 .args in along-ok (a .t) m k
-      (a .limit) (a .answers .now) (a .i) l₀ (a .log .now) p _ _ (b11 .if1 .taken) (b14 .pre) (simp (b4 .enum-told .given .1) tt) (c .before .before .note
+    (λ c. let b4 = c .before .before .before .before in let b7 = b4 .before .before .before in let b9 = b7 .before .before in let b11 = b9 .before
+      .before
+      in let b14 = b11 .before .before .before in ((omega arith, omega (arith, b11 .if1 .taken)), λ m k l₀ p h. let a = b14 .args in along-ok
+        (a .t) m k
+      (a .limit) (a .answers .now) (a .i) l₀ (a .log .now) p _ _ (b11 .if1 .taken) (b14 .pre) (simp (b4 .enum-told .given .1) tt)
+        (c .before .before .note
       .ensures) (sym (b7 .v .given .1) ∙ b9 .answer-of .ensures) h))
     (λ c. search needs) (λ c κs. search needs) (λ c. search needs) (λ c. search needs)
-    (λ c. let b4 = c .before .before .before .before in let b7 = b4 .before .before .before in let b9 = b7 .before .before in let b11 = b9 .before .before
-      in let b14 = b11 .before .before .before in ((omega arith, omega (arith, b11 .if1 .taken)), λ m k l₀ p h. let a = b14 .args in along-ok (a .t) m k
+    (λ c. let b4 = c .before .before .before .before in let b7 = b4 .before .before .before in let b9 = b7 .before .before in let b11 = b9 .before
+      .before
+      in let b14 = b11 .before .before .before in ((omega arith, omega (arith, b11 .if1 .taken)), λ m k l₀ p h. let a = b14 .args in along-ok
+        (a .t) m k
       (a .limit) (a .answers .now) (a .i) l₀ (a .log .now) p _ _ (b11 .if1 .taken) (b14 .pre) (simp (b4 .enum-told2 .given .1) tt) (c .before .before
       .note2 .ensures) (sym (b7 .v .given .1) ∙ b9 .answer-of .ensures) h))
     (λ c. search needs) (λ c. search needs) (λ c. search needs) (λ c. search needs) (λ c κs. search needs) (λ c. search needs) (λ c. search needs))

@@ -26,5 +26,7 @@ patch-spec =
     (λ c. search needs) (λ c. search needs) (λ c. search needs)
     (λ c. (search needs, turned (bytes-patched _ _ _) _ (c .before .before .loop .inv .1) (rw (c .byte-at .ensures, getD-drop)))) (λ c. search needs)
     (λ c. search needs) (λ c. search needs) (λ c. search needs) (λ c κs. search needs) (λ c. search needs) (λ c. search needs)
-    (λ c. let a = c .before .before .before .before .before .before .before .before .before .args in ap (set (a .row .now) 0) (c .word-of .ensures ∙ ap (λ (l : List ℕ). leWord l 0) (turns-end (bytes-patched _ _ _) _ (a .count) (c .before .before .before .loop .inv .1) (omega arith) (λ k h. omega arith))))
+    (λ c. let a = c .before .before .before .before .before .before .before .before .before .args in ap (set (a .row .now) 0) (c .word-of .ensures
+      ∙ ap (λ (l : List ℕ). leWord l 0) (turns-end (bytes-patched _ _ _) _ (a .count) (c .before .before .before .loop .inv .1) (omega arith)
+      (λ k h. omega arith))))
     (λ c. sym (set-out _ 0 _ (c .if1 .left))))

@@ -7,6 +7,10 @@ use Rattle.jobs.proofs.put_last.Tie as tie
 pub put-last-spec : {M : Type 1} → statement M
 put-last-spec =
     tie.close (tie.spec
-    (λ c κs. search needs) (λ c. search needs) (λ c κs. search needs) (λ c. search needs) (λ c. search needs) (λ c κs. search needs) (λ c. search needs)
+    (λ c κs. search needs) (λ c. search needs) (λ c κs. search needs) (λ c. search needs) (λ c. search needs) (λ c κs. search needs)
+      (λ c. search needs)
     (λ c. search needs) (λ c κs. search needs) (λ c. search needs) (λ c. search needs) (λ c κs. search needs) (λ c. search needs)
-    (λ c. simp (c .before .before .poke4 .ensures, c .before .before .before .before .before .before .poke3 .ensures, c .before .before .before .before .before .before .before .before .before .before .poke2 .ensures, c .before .before .before .before .before .before .before .before .before .before .before .before .before .before .poke .ensures, c .before .before .before .before .before .before .before .before .before .before .before .before .before .before .before .before .le-bytes .ensures, add-one, add-two, add-three)))
+    (λ c. simp (c .before .before .poke4 .ensures, c .before .before .before .before .before .before .poke3 .ensures, c .before .before .before
+      .before .before .before .before .before .before .before .poke2 .ensures, c .before .before .before .before .before .before .before .before
+      .before .before .before .before .before .before .poke .ensures, c .before .before .before .before .before .before .before .before .before
+      .before .before .before .before .before .before .before .le-bytes .ensures, add-one, add-two, add-three)))

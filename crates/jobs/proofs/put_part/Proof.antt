@@ -18,9 +18,11 @@ abbrev μ-loop : tie.MeasureT-loop
 pub put-part-spec : {M : Type 1} → statement M
 put-part-spec =
     tie.close (tie.spec
-    Inv-loop μ-loop (λ c κs. search needs) (λ c κs. search needs) (λ c. (search needs, part-stored _ _ _ .start)) (λ c. search needs) (λ c. search needs)
+    Inv-loop μ-loop (λ c κs. search needs) (λ c κs. search needs) (λ c. (search needs, part-stored _ _ _ .start)) (λ c. search needs)
+        (λ c. search needs)
     (λ c κs. search needs) (λ c. omega (arith, turned-length (part-stored _ _ _) _ (c .before .before .before .loop .inv .1))) (λ c. search needs)
     (λ c. search needs)
-    (λ c. (search needs, turned (part-stored _ _ _) _ (c .before .before .before .loop .inv .1) (simp (c .byte-at .ensures, c .before .before .before .before .before .le-bytes .ensures))))
+    (λ c. (search needs, turned (part-stored _ _ _) _ (c .before .before .before .loop .inv .1) (simp (c .byte-at .ensures, c .before .before .before
+      .before .before .le-bytes .ensures))))
     (λ c. turned-length (part-stored _ _ _) _ (c .before .loop .inv .1))
     (λ c. turns-end (part-stored _ _ _) _ _ (c .before .loop .inv .1) (omega arith) (λ k h. omega arith)))

@@ -26,16 +26,19 @@ abbrev below : ℕ → In 1 put-digits-kinds.ps
 below t = and 1 put-digits-kinds.ps (falls 1 put-digits-kinds.ps _<_ μ t) put-digits.Pre
 
 pub +put-digits-spec : {M : Type 1} → statement M
-+put-digits-spec = close μ (λ t. put-digits-lts.spec (digit-of-reads.Asked, digit-of-reads.Learnt, put-reads.Asked, put-reads.Learnt, below t, put-digits.Post) (at-measure t) put-digits.Post
++put-digits-spec = close μ (λ t. put-digits-lts.spec (digit-of-reads.Asked, digit-of-reads.Learnt, put-reads.Asked, put-reads.Learnt, below t,
+    put-digits.Post) (at-measure t) put-digits.Post
     (λ c. (rw (c .if1 .taken) (rw (digits-none (c .before .before .args .n)) (record { place = omega arith; text = refl })), omega arith))
     (λ c κs. search needs) (λ c κs. search needs) (λ c. search needs)
     (λ c. let e = c .before .before .before .before .before .before .before .before in (
-      rw (digits-few (e .args .k) (e .args .n) (search needs) (search needs)) (rw (c .before .before .before .digit-of .ensures) at (c .before .before .put .ensures)),
+      rw (digits-few (e .args .k) (e .args .n) (search needs) (search needs)) (rw (c .before .before .before .digit-of .ensures) at
+        (c .before .before .put .ensures)),
       omega (arith, c .before .before .put .ensures .place),
     ))
     (λ c. search needs) (λ c κs. (omega arith, omega arith)) (λ c κs. search needs) (λ c κs. search needs) (λ c. search needs)
     (λ c. let e = c .before .before .before .before .before .before .before .before .before .before .before .before in (
-      rw (digits-more (e .args .k) (e .args .n) (search needs) (search needs)) (puts-then (c .before .before .before .before .before .before .before .put-digits .ensures .0)
+      rw (digits-more (e .args .k) (e .args .n) (search needs) (search needs)) (puts-then (c .before .before .before .before .before .before .before
+        .put-digits .ensures .0)
           (rw (c .before .before .before .digit-of2 .ensures) at (c .before .before .put2 .ensures))),
       search needs,
     )))

@@ -26,11 +26,13 @@ abbrev below : ℕ → In 1 put-hex-kinds.ps
 below t = and 1 put-hex-kinds.ps (falls 1 put-hex-kinds.ps _<_ μ t) put-hex.Pre
 
 pub +put-hex-spec : {M : Type 1} → statement M
-+put-hex-spec = close μ (λ t. put-hex-lts.spec (below t, put-hex.Post, digit-of-reads.Asked, digit-of-reads.Learnt, put-reads.Asked, put-reads.Learnt) (at-measure t) put-hex.Post
++put-hex-spec = close μ (λ t. put-hex-lts.spec (below t, put-hex.Post, digit-of-reads.Asked, digit-of-reads.Learnt, put-reads.Asked,
+    put-reads.Learnt) (at-measure t) put-hex.Post
     (λ c. (rw (c .if1 .taken) (rw (hex-none (c .before .before .args .n)) (record { place = omega arith; text = refl })), omega arith))
     (λ c. search needs) (λ c κs. (omega arith, omega arith)) (λ c κs. search needs) (λ c κs. search needs) (λ c. search needs)
     (λ c. let e = c .before .before .before .before .before .before .before .before .before .before .before in (
-      rw (hex-more (e .args .k) (e .args .n) (search needs)) (puts-then (c .before .before .before .before .before .before .before .put-hex .ensures .0)
+      rw (hex-more (e .args .k) (e .args .n) (search needs)) (puts-then (c .before .before .before .before .before .before .before .put-hex .ensures
+        .0)
           (rw (c .before .before .before .digit-of .ensures) at (c .before .before .put .ensures))),
       search needs,
     )))

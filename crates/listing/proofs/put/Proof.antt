@@ -9,5 +9,6 @@ pub put-spec : {M : Type 1} → statement M
 put-spec =
     tie.close (tie.spec
     (λ c. search needs)
-    (λ c. record { place = search needs; text = sym (set-out (c .before .args .out .now) (c .before .args .at) (c .before .args .b) (c .if1 .taken)) })
+    (λ c. record { place = search needs; text = sym (set-out (c .before .args .out .now) (c .before .args .at) (c .before .args .b)
+      (c .if1 .taken)) })
     (λ c. search needs) (λ c. search needs) (λ c. search needs) (λ c. search needs))

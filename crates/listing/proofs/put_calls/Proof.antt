@@ -22,7 +22,8 @@ abbrev μ-loop : tie.MeasureT-loop
 
 pub put-calls-spec : {M : Type 1} → statement M
 put-calls-spec = tie.close (tie.spec
-    Inv-loop μ-loop (λ c. (omega arith, omega arith, search needs, left-all)) (λ c. omega arith) (λ c. omega arith) (λ c. search needs) (λ c. omega arith)
+    Inv-loop μ-loop (λ c. (omega arith, omega arith, search needs, left-all)) (λ c. omega arith) (λ c. omega arith) (λ c. search needs)
+        (λ c. omega arith)
     (λ c κs. search needs) (λ c κs. omega arith) (λ c. omega arith) (λ c. omega arith)
     (λ c. let d = c .before .before .before .before .before .before .before in (
       omega arith,
@@ -33,6 +34,7 @@ put-calls-spec = tie.close (tie.spec
     ))
     (λ c. search needs)
     (λ c. (
-      left-lines (c .before .before .before .before .args .log .now) (c .before .loop .i) (c .before .loop .i + 1) (omega arith) (c .before .loop .inv .3),
+      left-lines (c .before .before .before .before .args .log .now) (c .before .loop .i) (c .before .loop .i + 1) (omega arith)
+        (c .before .loop .inv .3),
       omega arith,
     )))

@@ -9,6 +9,9 @@ pub put-data-start-spec : {M : Type 1} → statement M
 put-data-start-spec =
     tie.close (tie.spec
     (λ c κs. search needs) (λ c. search needs)
-    (λ c. (rw (start-none (c .before .before .before .before .before .before .args .n) (c .if1 .taken)) (c .before .before .before .put .ensures), search needs))
+    (λ c. (rw (start-none (c .before .before .before .before .before .before .args .n) (c .if1 .taken)) (c .before .before .before .put .ensures),
+      search needs))
     (λ c κs. search needs) (λ c. search needs)
-    (λ c. (rw (start-some (c .before .before .before .before .before .before .before .before .before .before .args .n) (c .before .before .before .before .if1 .left)) (puts-then (c .before .before .before .before .before .before .before .put .ensures) (c .before .before .put2 .ensures)), search needs)))
+    (λ c. (rw (start-some (c .before .before .before .before .before .before .before .before .before .before .args .n)
+      (c .before .before .before .before .if1 .left)) (puts-then (c .before .before .before .before .before .before .before .put .ensures)
+      (c .before .before .put2 .ensures)), search needs)))

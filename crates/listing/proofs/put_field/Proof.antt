@@ -7,4 +7,5 @@ use Rattle.listing.proofs.put_field.Tie as tie
 pub put-field-spec : {M : Type 1} → statement M
 put-field-spec =
     tie.close (tie.spec
-    (λ c κs. search needs) (λ c κs. search needs) (λ c. search needs) (λ c. (puts-then (c .before .before .before .before .before .before .put .ensures) (c .before .before .put-hex .ensures .0), search needs)))
+    (λ c κs. search needs) (λ c κs. search needs) (λ c. search needs) (λ c. (puts-then (c .before .before .before .before .before .before .put
+      .ensures) (c .before .before .put-hex .ensures .0), search needs)))

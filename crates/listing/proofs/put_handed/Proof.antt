@@ -9,7 +9,8 @@ pub put-handed-spec : {M : Type 1} → statement M
 put-handed-spec =
     tie.close (tie.spec
     (λ c κs. search needs) (λ c κs. search needs) (λ c. search needs)
-    (λ c. handed-fits (c .before .before .before .before .before .args .c) _ _ (c .before .before .before .numbers-of .ensures) (c .before .before .bytes-of .ensures))
+    (λ c. handed-fits (c .before .before .before .before .before .args .c) _ _ (c .before .before .before .numbers-of .ensures)
+      (c .before .before .bytes-of .ensures))
     (λ c. handed-count (c .before .before .before .before .before .before .args .c) _ _ (c .before .before .before .before .numbers-of .ensures)
     (c .before .before .before .bytes-of .ensures))
     (λ c κs. omega (
@@ -19,6 +20,7 @@ put-handed-spec =
     ))
     (λ c. search needs)
     (λ c. let d = c .before .before .before .before .before .before in (
-      handed-puts (d .before .before .before .args .c) _ _ (d .before .numbers-of .ensures) (d .bytes-of .ensures) (c .before .before .put-bits .ensures .0),
+      handed-puts (d .before .before .before .args .c) _ _ (d .before .numbers-of .ensures) (d .bytes-of .ensures)
+        (c .before .before .put-bits .ensures .0),
       omega (arith, handed-most (d .before .before .before .args .c) _ _ (d .before .numbers-of .ensures) (d .bytes-of .ensures)),
     )))

@@ -19,13 +19,16 @@ abbrev μ-loop : tie.MeasureT-loop
 
 pub put-hex-bytes-spec : {M : Type 1} → statement M
 put-hex-bytes-spec = tie.close (tie.spec
-    Inv-loop μ-loop (λ c. (omega arith, omega arith, search needs, left-all)) (λ c. omega arith) (λ c κs. search needs) (λ c κs. omega arith) (λ c. omega arith)
+    Inv-loop μ-loop (λ c. (omega arith, omega arith, search needs, left-all)) (λ c. omega arith) (λ c κs. search needs) (λ c κs. omega arith)
+        (λ c. omega arith)
     (λ c. omega arith)
     (λ c. let d = c .before .before .before .before .before .before .before in (
       omega arith,
       omega (arith, c .before .before .put-hex .ensures .1),
       search needs,
-      left-more hexByte (d .before .before .before .args .bytes .now) (d .loop .i) (omega arith) (d .loop .inv .3) (rw (c .before .before .before .wide .ensures) at (c .before .before .put-hex .ensures .0)),
+      left-more hexByte (d .before .before .before .args .bytes .now) (d .loop .i) (omega arith) (d .loop .inv .3) (rw
+        (c .before .before .before .wide .ensures) at (c .before .before .put-hex .ensures .0)),
     ))
     (λ c. search needs)
-    (λ c. (left-done hexByte (c .before .before .before .before .args .bytes .now) (c .before .loop .i) (omega arith) (c .before .loop .inv .3), omega arith)))
+    (λ c. (left-done hexByte (c .before .before .before .before .args .bytes .now) (c .before .loop .i) (omega arith)
+      (c .before .loop .inv .3), omega arith)))

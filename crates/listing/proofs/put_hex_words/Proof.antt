@@ -25,7 +25,9 @@ put-hex-words-spec = tie.close (tie.spec
       omega arith,
       omega (arith, c .before .before .put-hex .ensures .1),
       search needs,
-      left-more hexWord (d .before .before .before .args .words .now) (d .loop .i) (omega arith) (d .loop .inv .3) (c .before .before .put-hex .ensures .0),
+      left-more hexWord (d .before .before .before .args .words .now) (d .loop .i) (omega arith) (d .loop .inv .3)
+        (c .before .before .put-hex .ensures .0),
     ))
     (λ c. search needs)
-    (λ c. (left-done hexWord (c .before .before .before .before .args .words .now) (c .before .loop .i) (omega arith) (c .before .loop .inv .3), omega arith)))
+    (λ c. (left-done hexWord (c .before .before .before .before .args .words .now) (c .before .loop .i) (omega arith)
+      (c .before .loop .inv .3), omega arith)))

@@ -12,4 +12,5 @@ put-line-spec =
     let c₂ = c₁ .before .before .before .before in
     let c₃ = c₂ .before .before .before .before in
     let c₄ = c₃ .before .before .before .before in
-    ((puts-then (c₄ .put-decimal .ensures .0) (puts-then (c₃ .put .ensures) (puts-then (c₂ .put-call .ensures .0) (c₁ .put2 .ensures)))), search needs)))
+    ((puts-then (c₄ .put-decimal .ensures .0) (puts-then (c₃ .put .ensures) (puts-then (c₂ .put-call .ensures .0)
+      (c₁ .put2 .ensures)))), search needs)))

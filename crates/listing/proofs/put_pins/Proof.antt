@@ -12,4 +12,5 @@ put-pins-spec =
     let c₂ = c₁ .before .before .before .before in
     let c₃ = c₂ .before .before .before .before in
     let c₄ = c₃ .before .before .before .before in
-    (puts-then (c₄ .put .ensures) (puts-then (c₃ .put-field .ensures .0) (puts-then (c₂ .put-field2 .ensures .0) (c₁ .put-field3 .ensures .0))), search needs)))
+    (puts-then (c₄ .put .ensures) (puts-then (c₃ .put-field .ensures .0) (puts-then (c₂ .put-field2 .ensures .0)
+      (c₁ .put-field3 .ensures .0))), search needs)))

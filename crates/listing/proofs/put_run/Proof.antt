@@ -12,7 +12,8 @@ put-run-spec =
     tie.close (tie.spec
     (λ c. search needs) (λ c. search needs)
     (λ c. let e = c .before .before .before .before .before in (
-      rw (listed-none (e .args .log .now) (e .args .e) (e .args .s) (e .args .words .now) (e .args .buf .now) (c .if1 .taken)) (record { place = refl; text = refl }),
+      rw (listed-none (e .args .log .now) (e .args .e) (e .args .s) (e .args .words .now) (e .args .buf .now) (c .if1 .taken))
+        (record { place = refl; text = refl }),
       omega arith,
     ))
     (λ c κs. search needs) (λ c κs. search needs) (λ c κs. search needs) (λ c. search needs)

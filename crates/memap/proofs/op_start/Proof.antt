@@ -7,19 +7,19 @@ use Rattle.memap.proofs.op_start.Tie as tie
 
 returns : tie.Need-returns
 unfolding perform
-returns c = λ ws buf k. simp (c .before .before .before .op .given .1) (simp (c .lone .ensures) (c .before .direct .ensures _ _))
+returns c = λ ws buf k. simp (c .before .before .op .given .1) (c .direct-on .ensures k _)
 
 returns-2 : tie.Need-returns-2
 unfolding perform
-returns-2 c = λ ws buf k. simp (c .before .before .before .op2 .given .1) (simp (c .lone2 .ensures) (c .before .direct2 .ensures _ _))
+returns-2 c = λ ws buf k. simp (c .before .before .op2 .given .1) (c .direct-on2 .ensures k _)
 
 returns-3 : tie.Need-returns-3
 unfolding perform
-returns-3 c = λ ws buf k. simp (c .before .before .before .op3 .given .1) (simp (c .lone3 .ensures) (c .before .access-start .ensures ws buf _))
+returns-3 c = λ ws buf k. simp (c .before .before .op3 .given .1) (c .access-on .ensures ws buf k)
 
 returns-4 : tie.Need-returns-4
 unfolding perform
-returns-4 c = λ ws buf k. simp (c .before .before .before .op4 .given .1) (simp (c .lone4 .ensures) (c .before .access-start2 .ensures ws buf _))
+returns-4 c = λ ws buf k. simp (c .before .before .op4 .given .1) (c .access-on2 .ensures ws buf k)
 
 returns-5 : tie.Need-returns-5
 unfolding perform
@@ -39,14 +39,14 @@ returns-8 c = λ ws buf k. simp (c .before .before .op8 .given .1) (c .task-star
 
 returns-9 : tie.Need-returns-9
 unfolding perform
-returns-9 c = λ ws buf k. simp (c .before .before .before .op9 .given .1) (simp (c .lone5 .ensures) (c .before .direct-raw .ensures _ _))
+returns-9 c = λ ws buf k. simp (c .before .before .op9 .given .1) (c .raw-start .ensures k _)
 
 pub op-start-spec : {M : Type 1} → statement M
-op-start-spec =
-    tie.close (tie.spec
-    (λ c. search needs) (λ c. search needs) (λ c. search needs) (λ c κs. search needs) (λ c κs. search needs) (λ c. search needs) (λ c. search needs)
-    (λ c κs. search needs) (λ c κs. search needs) (λ c. search needs) (λ c. search needs) (λ c. search needs) (λ c κs. search needs)
-    (λ c κs. search needs) (λ c. search needs) (λ c. search needs) (λ c. search needs) (λ c κs. search needs) (λ c κs. search needs) (λ c. search needs)
-    (λ c κs. search needs) (λ c. search needs) (λ c κs. search needs) (λ c. search needs) (λ c κs. search needs) (λ c. search needs)
-    (λ c κs. search needs) (λ c. search needs) (λ c κs. search needs) (λ c κs. search needs) returns returns-2 returns-3 returns-4 returns-5 returns-6
-    returns-7 returns-8 returns-9)
+op-start-spec = tie.close (tie.spec
+    (λ c. search needs) (λ c. search needs) (λ c. search needs) (λ c κs. search needs) returns
+    (λ c. search needs) (λ c. search needs) (λ c κs. search needs) returns-2
+    (λ c. search needs) (λ c. search needs) (λ c. search needs) (λ c κs. search needs) returns-3
+    (λ c. search needs) (λ c. search needs) (λ c. search needs) (λ c κs. search needs) returns-4
+    (λ c. search needs) (λ c κs. search needs) returns-5 (λ c. search needs) (λ c κs. search needs) returns-6
+    (λ c. search needs) (λ c κs. search needs) returns-7 (λ c. search needs) (λ c κs. search needs) returns-8
+    (λ c. search needs) (λ c κs. search needs) returns-9)

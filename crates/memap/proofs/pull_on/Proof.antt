@@ -8,9 +8,9 @@ use Rattle.memap.proofs.pull_on.Tie as tie
 
 returns : tie.Need-returns
 unfolding pull
-returns c = λ k m. simp (c .before .if1 .taken) (c .rdbuff-on .ensures k m)
+returns c = λ k m. simp (c .before .if1 .taken) (c .direct-on .ensures k m)
 
 pub pull-on-spec : {M : Type 1} → statement M
 pull-on-spec = tie.close (tie.spec
     (λ c κs. search needs) returns (λ c κs. search needs)
-    (λ c. λ k m. let a = c .before .before .args in simp (pull-more (a .t .last) (a .more) k m (c .before .if1 .left)) (c .direct .ensures m _)))
+    (λ c. λ k m. let a = c .before .before .args in simp (pull-more (a .t .last) (a .more) k m (c .before .if1 .left)) (c .direct-on2 .ensures k m)))

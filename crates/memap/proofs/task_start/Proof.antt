@@ -6,5 +6,5 @@ use Rattle.memap.proofs.task_start.Tie as tie
 
 pub task-start-spec : {M : Type 1} → statement M
 task-start-spec = tie.close (tie.spec
-    (λ c κs. search needs) (λ c. λ ws buf k. simp (c .before .if1 .taken) (c .tar-on .ensures ws buf _)) (λ c κs. search needs)
-    (λ c. λ ws buf k. simp (c .before .if1 .left) (c .access-start .ensures ws buf _)))
+    (λ c κs. search needs) (λ c. λ ws buf k. simp (c .before .if1 .taken) (c .access-on .ensures ws buf k)) (λ c κs. search needs)
+    (λ c. λ ws buf k. simp (c .before .if1 .left) (c .access-on2 .ensures ws buf k)))

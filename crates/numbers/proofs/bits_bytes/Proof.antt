@@ -14,6 +14,9 @@ bits-bytes-spec =
     (λ c κs. search needs) (λ c. search needs) (λ c. search needs) (λ c. search needs) (λ c. search needs)
     (λ c. let e : (c .before .before .args .bits + 7) / 8 ≡ 0 = omega (arith, c .before .bytes-for .ensures) in simp e)
     (λ c. let e : (c .before .before .before .args .bits + 7) / 8 ≡ 1 = omega (arith, c .before .before .bytes-for .ensures) in simp e)
-    (λ c. let e : (c .before .before .before .before .args .bits + 7) / 8 ≡ 2 = omega (arith, c .before .before .before .bytes-for .ensures) in simp e)
-    (λ c. let e : (c .before .before .before .before .before .args .bits + 7) / 8 ≡ 3 = omega (arith, c .before .before .before .before .bytes-for .ensures) in simp e)
-    (λ c. let e : 4 ≤ (c .before .before .before .before .before .args .bits + 7) / 8 = omega (arith, c .before .before .before .before .bytes-for .ensures) in simp (take-all _ (leBytes (c .before .before .before .before .before .args .w)) e)))
+    (λ c. let e : (c .before .before .before .before .args .bits + 7) / 8 ≡ 2 = omega (arith, c .before .before .before .bytes-for .ensures) in simp
+      e)
+    (λ c. let e : (c .before .before .before .before .before .args .bits + 7) / 8 ≡ 3 = omega (arith, c .before .before .before .before .bytes-for
+      .ensures) in simp e)
+    (λ c. let e : 4 ≤ (c .before .before .before .before .before .args .bits + 7) / 8 = omega (arith, c .before .before .before .before .bytes-for
+      .ensures) in simp (take-all _ (leBytes (c .before .before .before .before .before .args .w)) e)))

@@ -9,8 +9,12 @@ call-of-spec =
     tie.close (tie.spec
     (λ c. search needs) (λ c. search needs) (λ c. simp (eq-eqb _ _ (c .if1 .taken)))
     (λ c. simp (ne-eqb _ _ (c .before .if1 .left)) (simp (eq-eqb _ _ (c .if2 .taken)))) (λ c κs. search needs)
-    (λ c. simp (ne-eqb _ _ (c .before .before .before .if1 .left)) (simp (ne-eqb _ _ (c .before .before .if2 .left)) (simp (eq-eqb _ _ (c .before .if3 .taken)) (simp (c .pattern-at .ensures)))))
+    (λ c. simp (ne-eqb _ _ (c .before .before .before .if1 .left)) (simp (ne-eqb _ _ (c .before .before .if2 .left)) (simp (eq-eqb _ _
+      (c .before .if3 .taken)) (simp (c .pattern-at .ensures)))))
     (λ c. search needs)
-    (λ c. simp (ne-eqb _ _ (c .before .before .before .if1 .left)) (simp (ne-eqb _ _ (c .before .before .if2 .left)) (simp (ne-eqb _ _ (c .before .if3 .left)) (simp (eq-eqb _ _ (c .if4 .taken))))))
-    (λ c. simp (ne-eqb _ _ (c .before .before .before .before .if1 .left)) (simp (ne-eqb _ _ (c .before .before .before .if2 .left)) (simp (ne-eqb _ _ (c .before .before .if3 .left)) (simp (ne-eqb _ _ (c .before .if4 .left)) (simp (eq-eqb _ _ (c .if5 .taken)))))))
-    (λ c. simp (ne-eqb _ _ (c .before .before .before .before .if1 .left)) (simp (ne-eqb _ _ (c .before .before .before .if2 .left)) (simp (ne-eqb _ _ (c .before .before .if3 .left)) (simp (ne-eqb _ _ (c .before .if4 .left)) (simp (ne-eqb _ _ (c .if5 .left))))))))
+    (λ c. simp (ne-eqb _ _ (c .before .before .before .if1 .left)) (simp (ne-eqb _ _ (c .before .before .if2 .left)) (simp (ne-eqb _ _
+      (c .before .if3 .left)) (simp (eq-eqb _ _ (c .if4 .taken))))))
+    (λ c. simp (ne-eqb _ _ (c .before .before .before .before .if1 .left)) (simp (ne-eqb _ _ (c .before .before .before .if2 .left)) (simp
+      (ne-eqb _ _ (c .before .before .if3 .left)) (simp (ne-eqb _ _ (c .before .if4 .left)) (simp (eq-eqb _ _ (c .if5 .taken)))))))
+    (λ c. simp (ne-eqb _ _ (c .before .before .before .before .if1 .left)) (simp (ne-eqb _ _ (c .before .before .before .if2 .left)) (simp
+      (ne-eqb _ _ (c .before .before .if3 .left)) (simp (ne-eqb _ _ (c .before .if4 .left)) (simp (ne-eqb _ _ (c .if5 .left))))))))

@@ -15,7 +15,8 @@ code-of-spec =
     (λ c. search needs) (λ c. search needs) (λ c. search needs) (λ c. search needs)
     (λ c. let g = c .before .c .given in (simp (g .1), simp (g .1) (reads-transfer 0 _ _ _ (omega arith) (omega arith) (omega arith) refl)))
     (λ c. search needs)
-    (λ c. let g = c .before .before .c2 .given in let n = c .pattern-no .ensures in (simp (g .1) (simp (n .0)), simp (g .1) (reads-sequence _ _ (n .1) (n .2))))
+    (λ c. let g = c .before .before .c2 .given in let n = c .pattern-no .ensures in (simp (g .1) (simp (n .0)), simp (g .1) (reads-sequence _ _
+      (n .1) (n .2))))
     (λ c. let g = c .before .c3 .given in (simp (g .1), simp (g .1) (reads-pins _ _ _ _ (omega arith) (omega arith) (omega arith) refl)))
     (λ c. let g = c .before .c4 .given in (simp (g .1), simp (g .1) (reads-bits 0 _ _ _ (omega arith) (omega arith) (omega arith) refl)))
     (λ c. search needs))

@@ -8,4 +8,6 @@ function-at-spec =
     tie.close (tie.spec
     (λ c κs. search needs) (λ c κs. search needs) (λ c κs. search needs) (λ c κs. search needs) (λ c κs. search needs) (λ c κs. search needs)
     (λ c κs. search needs)
-    (λ c. rw (c .before .before .before .before .before .before .word .ensures, c .before .before .before .before .before .word2 .ensures, c .before .before .before .before .word3 .ensures, c .before .before .before .word4 .ensures, c .before .before .word5 .ensures, c .before .word6 .ensures, c .word7 .ensures)))
+    (λ c. rw (c .before .before .before .before .before .before .word .ensures, c .before .before .before .before .before .word2 .ensures, c .before
+      .before .before .before .word3 .ensures, c .before .before .before .word4 .ensures, c .before .before .word5 .ensures, c .before .word6
+      .ensures, c .word7 .ensures)))

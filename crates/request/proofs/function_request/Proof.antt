@@ -16,5 +16,6 @@ function-request-spec =
     (λ c κs. search needs)
     (λ c. rw (c .before .before .match .keys1) (rw (c .before .function-at .ensures) at (c .fixed .ensures)))
     (λ c. rw (c .before .before .match .keys2) (rw (c .before .word .ensures) at (c .fixed2 .ensures)))
-    (λ c. rw (c .before .before .before .match .keys3) (rw (c .before .before .function-at2 .ensures, c .before .word2 .ensures) at (c .core .ensures)))
+    (λ c. rw (c .before .before .before .match .keys3) (rw (c .before .before .function-at2 .ensures, c .before .word2 .ensures) at
+      (c .core .ensures)))
     (λ c. simp (ne-eqb _ _ (c .match .rest .0 .0 .1), ne-eqb _ _ (c .match .rest .0 .1), ne-eqb _ _ (c .match .rest .1))))

@@ -24,4 +24,5 @@ memory-request-spec =
     (λ c. rw (c .before .before .before .match .keys3) (rw (c .before .before .byte3 .ensures, c .before .word .ensures) at (c .memory3 .ensures)))
     (λ c. rw (c .before .before .match .keys4) (rw (c .before .word2 .ensures) at (c .memory4 .ensures)))
     (λ c. rw (c .before .before .before .match .keys5) (rw (c .before .before .word3 .ensures, c .before .word4 .ensures) at (c .memory5 .ensures)))
-    (λ c. simp (ne-eqb _ _ (c .match .rest .0 .0 .0 .0 .1), ne-eqb _ _ (c .match .rest .0 .0 .0 .1), ne-eqb _ _ (c .match .rest .0 .0 .1), ne-eqb _ _ (c .match .rest .0 .1), ne-eqb _ _ (c .match .rest .1))))
+    (λ c. simp (ne-eqb _ _ (c .match .rest .0 .0 .0 .0 .1), ne-eqb _ _ (c .match .rest .0 .0 .0 .1), ne-eqb _ _
+      (c .match .rest .0 .0 .1), ne-eqb _ _ (c .match .rest .0 .1), ne-eqb _ _ (c .match .rest .1))))

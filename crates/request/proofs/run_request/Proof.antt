@@ -16,4 +16,5 @@ run-request-spec =
     (λ c. rw (c .before .match .keys2) (c .words-follow .ensures))
     (λ c. rw (c .before .match .keys3) (c .fixed2 .ensures))
     (λ c. rw (c .before .match .keys4) (c .bytes-follow .ensures))
-    (λ c. simp (ne-eqb _ _ (c .match .rest .0 .0 .0 .1), ne-eqb _ _ (c .match .rest .0 .0 .1), ne-eqb _ _ (c .match .rest .0 .1), ne-eqb _ _ (c .match .rest .1))))
+    (λ c. simp (ne-eqb _ _ (c .match .rest .0 .0 .0 .1), ne-eqb _ _ (c .match .rest .0 .0 .1), ne-eqb _ _ (c .match .rest .0 .1), ne-eqb _ _
+      (c .match .rest .1))))

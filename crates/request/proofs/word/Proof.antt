@@ -14,7 +14,8 @@ word-spec =
     let h1 : length (e .args .a .now) ≤ e .args .i + 1 = omega arith in
     let h2 : length (e .args .a .now) ≤ e .args .i + 2 = omega arith in
     let h3 : length (e .args .a .now) ≤ e .args .i + 3 = omega arith in
-    omega (arith, List·getD-eq-default (e .args .a .now) 0 h0, List·getD-eq-default (e .args .a .now) 0 h1, List·getD-eq-default (e .args .a .now) 0 h2, List·getD-eq-default (e .args .a .now) 0 h3))
+    omega (arith, List·getD-eq-default (e .args .a .now) 0 h0, List·getD-eq-default (e .args .a .now) 0 h1, List·getD-eq-default
+        (e .args .a .now) 0 h2, List·getD-eq-default (e .args .a .now) 0 h3))
     (λ c κs. search needs)
     (λ c. search needs)
     (λ c. search needs)

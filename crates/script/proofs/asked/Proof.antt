@@ -18,8 +18,10 @@ asked-spec =
     (λ c κs. let w = c .before .before .before in (
       record {
         short = omega arith;
-        words = part-zeros (w .before .word-count .result) 65536 (omega arith) (w .before .before .before .zero-words .ensures) ∙ ap (λ (n : ℕ). replicate n 0) (w .before .word-count .ensures .0);
-        buf = part-zeros (w .byte-count .result) 65536 (omega arith) (w .before .before .zero-bytes .ensures) ∙ ap (λ (n : ℕ). replicate n 0) (w .byte-count .ensures .0);
+        words = part-zeros (w .before .word-count .result) 65536 (omega arith) (w .before .before .before .zero-words .ensures)
+            ∙ ap (λ (n : ℕ). replicate n 0) (w .before .word-count .ensures .0);
+        buf = part-zeros (w .byte-count .result) 65536 (omega arith) (w .before .before .zero-bytes .ensures)
+            ∙ ap (λ (n : ℕ). replicate n 0) (w .byte-count .ensures .0);
       },
       omega arith,
       omega (arith, part-length (w .before .word-count .result) 65536 (omega arith) (w .before .before .before .zero-words .ensures)),

@@ -25,5 +25,6 @@ pub dapscript-spec : {M : Type 1} → statement M
 dapscript-spec =
     tie.close (tie.spec
     (λ c κs. search needs)
-    (λ c κs. sizes (c .before .before .before .before .before .args .input .now) (sym (c .before .before .well-formed .ensures) ∙ c .before .if1 .taken))
+    (λ c κs. sizes (c .before .before .before .before .before .args .input .now) (sym (c .before .before .well-formed .ensures)
+      ∙ c .before .if1 .taken))
     (λ c. search needs) returns (λ c κs. search needs) (λ c. search needs) returns-2)

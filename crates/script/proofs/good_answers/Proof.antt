@@ -22,7 +22,8 @@ good-answers-spec = tie.close (tie.spec
     ∙ simp (sym (c .before .good-answer .ensures) ∙ not-true _ (c .if1 .taken))))
     (λ c. omega arith) (λ c. omega arith) (λ c. omega arith)
     (λ c. let d = c .before .before .before in (
-      d .loop .inv .0 ∙ good-more (d .before .before .args .input .now) (d .loop .left) (d .loop .at) (omega arith) ∙ simp (sym (c .before .good-answer .ensures)
+      d .loop .inv .0 ∙ good-more (d .before .before .args .input .now) (d .loop .left) (d .loop .at) (omega arith)
+        ∙ simp (sym (c .before .good-answer .ensures)
           ∙ not-false _ (c .if1 .left)),
       omega arith,
       omega arith,

@@ -39,5 +39,6 @@ load-answers-spec = tie.close (tie.spec
     ))
     (λ c. search needs)
     (λ c. let d = c .before .before .before .before in
-    row-whole (answerAt (d .args .input .now)) 7 (length (d .args .answers .now)) (d .args .i) (c .before .loop .j) (c .before .loop .at) (omega arith) refl
+    row-whole (answerAt (d .args .input .now)) 7 (length (d .args .answers .now)) (d .args .i) (c .before .loop .j) (c .before .loop .at)
+        (omega arith) refl
     (c .before .loop .inv .3)))

@@ -38,4 +38,5 @@ load-words-spec = tie.close (tie.spec
     ))
     (λ c. search needs)
     (λ c. let d = c .before .before .before .before in
-    row-whole (word (d .args .a .now)) 4 (length (d .args .words .now)) (d .args .size) (c .before .loop .j) (c .before .loop .at) (omega arith) refl (c .before .loop .inv .3)))
+    row-whole (word (d .args .a .now)) 4 (length (d .args .words .now)) (d .args .size) (c .before .loop .j) (c .before .loop .at)
+        (omega arith) refl (c .before .loop .inv .3)))

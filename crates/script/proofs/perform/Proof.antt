@@ -22,11 +22,13 @@ perform-spec =
     (λ c. let d = c .before .before .before .before .before .before .before .before in
     let e = d .before .before .before .before .before .before .before .before .before in
     let z = d .before .before .before .before .zero-answers .ensures in
-    count-fits (e .args .c) (e .args .b) (e .args .words .now) (e .args .buf .now) (e .args .answers .now) (d .run .ensures) (omega (arith, e .pre .0, z)))
+    count-fits (e .args .c) (e .args .b) (e .args .words .now) (e .args .buf .now) (e .args .answers .now) (d .run .ensures) (omega
+        (arith, e .pre .0, z)))
     (λ c. let d = c .before .before .before .before .before .before .before .before .before in
     let e = d .before .before .before .before .before .before .before .before .before in
     let z = d .before .before .before .before .zero-answers .ensures in
-    omega (arith, count-fits (e .args .c) (e .args .b) (e .args .words .now) (e .args .buf .now) (e .args .answers .now) (d .run .ensures) (omega (arith, e .pre .0, z)), length-take (d .run .result .count) (d .run .last .1 .1 .1 .1 .1 .1 .0)))
+    omega (arith, count-fits (e .args .c) (e .args .b) (e .args .words .now) (e .args .buf .now) (e .args .answers .now) (d .run .ensures) (omega
+        (arith, e .pre .0, z)), length-take (d .run .result .count) (d .run .last .1 .1 .1 .1 .1 .1 .0)))
     (λ c κs. search needs)
     (λ c κs. search needs)
     (λ c. search needs)
@@ -36,7 +38,13 @@ perform-spec =
     let e = d .before .before .before .before .before .before .before .before .before in
     let z = d .before .before .before .before .zero-answers .ensures in
     let p = c .before .before in (
-      subst (λ (t : List ℕ). Puts (e .args .out .now) 0 t (p .put-run .last .0) (p .put-run .result)) (performed-text (e .args .c) (e .args .b) (e .args .words .now) (e .args .buf .now) (e .args .answers .now) (d .run .ensures) (omega (arith, e .pre .0, z)) (omega (arith, d .run .kept .1 .1 .1 .1 .0, d .run .kept .1 .1 .1 .1 .1 .0, count-most (e .args .c) (e .args .b) (e .args .words .now) (e .args .buf .now) (e .args .answers .now) (d .run .ensures) (omega (arith, e .pre .0, z)), length-take (d .run .result .count) (d .run .last .1 .1 .1 .1 .1 .1 .0))))
+      subst (λ (t : List ℕ). Puts (e .args .out .now) 0 t (p .put-run .last .0) (p .put-run .result)) (performed-text (e .args .c) (e .args .b)
+        (e .args .words .now) (e .args .buf .now) (e .args .answers .now) (d .run .ensures) (omega (arith, e .pre .0, z)) (omega
+        (arith, d .run .kept .1 .1 .1 .1 .0, d .run .kept .1 .1 .1 .1 .1 .0, count-most (e .args .c) (e .args .b) (e .args .words .now)
+        (e .args .buf .now) (e .args .answers .now) (d .run .ensures) (omega (arith, e .pre .0, z)), length-take (d .run .result .count)
+        (d .run .last .1 .1 .1 .1 .1 .1 .0))))
           (rw (c .before .before .before .before .before .shown-of .ensures) at (p .put-run .ensures .0)),
-      omega (arith, p .put-run .ensures .1, d .run .kept .1 .1 .1 .1 .0, d .run .kept .1 .1 .1 .1 .1 .0, count-most (e .args .c) (e .args .b) (e .args .words .now) (e .args .buf .now) (e .args .answers .now) (d .run .ensures) (omega (arith, e .pre .0, z)), length-take (d .run .result .count) (d .run .last .1 .1 .1 .1 .1 .1 .0)),
+      omega (arith, p .put-run .ensures .1, d .run .kept .1 .1 .1 .1 .0, d .run .kept .1 .1 .1 .1 .1 .0, count-most (e .args .c) (e .args .b)
+        (e .args .words .now) (e .args .buf .now) (e .args .answers .now) (d .run .ensures) (omega (arith, e .pre .0, z)), length-take
+        (d .run .result .count) (d .run .last .1 .1 .1 .1 .1 .1 .0)),
     )))

@@ -12,13 +12,15 @@ unfolding requestText
 returns c =
     let r = script-request (c .before .before .before .before .before .before .before .before .before .before .before .before .args .input .now)
     (c .before .before .before .before .before .before .before .before .before .half .ensures)
-    (c .before .before .before .before .before .before .before .before .byte .ensures) (c .before .before .before .before .before .before .request-of .ensures) in
+    (c .before .before .before .before .before .before .before .before .byte .ensures) (c .before .before .before .before .before .before .request-of
+      .ensures) in
     (rw (sym r ∙ c .before .before .before .before .enum-told .given .1) (c .before .before .put-malformed .ensures .0), omega arith)
 
 returns-2 : tie.Need-returns-2
 unfolding requestText
 returns-2 c =
-    let r = script-request (c .before .before .before .before .before .before .before .before .before .before .before .before .before .args .input .now)
+    let r = script-request (c .before .before .before .before .before .before .before .before .before .before .before .before .before .args .input
+        .now)
     (c .before .before .before .before .before .before .before .before .before .before .half .ensures)
     (c .before .before .before .before .before .before .before .before .before .byte .ensures)
     (c .before .before .before .before .before .before .before .request-of .ensures) in

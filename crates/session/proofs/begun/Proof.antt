@@ -15,4 +15,5 @@ begun-spec =
       let known = row .before in let connect = known .before in let call = connect .before in let t = call .before .before .before .args in
       answers-as _ _ _ _ _ _ _ _ _ (c .before .kind-of .ensures) refl
       (c .settled .ensures _ _ (starts (t .c) _ _ (t .s .state .remembered) _ (t .s .frame) _ (t .buf .now) _ _ _
-      (call .engine-call .ensures) (connect .is-connect .ensures) (known .remembered-for .ensures) (row .row-of .ensures) (started .start-over .ensures .0)))))
+      (call .engine-call .ensures) (connect .is-connect .ensures) (known .remembered-for .ensures) (row .row-of .ensures)
+        (started .start-over .ensures .0)))))

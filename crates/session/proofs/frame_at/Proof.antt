@@ -5,4 +5,5 @@ use Rattle.session.proofs.frame_at.Tie as tie
 pub frame-at-spec : {M : Type 1} → statement M
 frame-at-spec =
     tie.close (tie.spec
-    (λ c. search needs) (λ c. search needs) (λ c κs. search needs) (λ c. search needs) (λ c. simp (c .before .before .before .next .given .1) (c .frame-ended .ensures)))
+    (λ c. search needs) (λ c. search needs) (λ c κs. search needs) (λ c. search needs) (λ c. simp (c .before .before .before .next .given .1)
+      (c .frame-ended .ensures)))

@@ -11,4 +11,5 @@ moved-spec =
     tie.close (tie.spec
     (λ c κs. search needs) (λ c. search needs) (λ c κs. search needs) (λ c κs. search needs) (λ c. search needs)
     (λ c. let step = c .before .before .before .before in
-      answers-as _ _ _ _ _ _ _ _ _ refl (step .before .before .before .has-lost .ensures _ _) (c .settled .ensures _ _ (step .step-over .ensures .0))))
+      answers-as _ _ _ _ _ _ _ _ _ refl (step .before .before .before .has-lost .ensures _ _) (c .settled .ensures _ _
+        (step .step-over .ensures .0))))

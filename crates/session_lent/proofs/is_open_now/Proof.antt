@@ -45,4 +45,5 @@ is-open-now-spec 𝓤 H 𝓜 𝓖 𝓡 =
     (tables 𝓤 H 𝓜 𝓡 code.env .C) (tables 𝓤 H 𝓜 𝓡 code.env .Λ) #f code.function (code.unfolded 𝓤 H 𝓜 𝓡)
     (LookLaw.meets t n (pointee (T.the-row .written)) #inner Fact 𝓤 H (𝓖 .A) (givenOf 𝓤 H 𝓜 𝓖)
     (Law.struct-ruled T.the-type T′.the-laws T′.the-plain) n-laws (tablesOf 𝓤 H 𝓜 (tables 𝓤 H 𝓜 𝓡 code.env))
-    (cited 𝓤 H (tripleOf 𝓤 H (𝓖 .A) inner.signature (inner.spec 𝓤 H (𝓖 .A) (𝓜 .mem) (𝓡 .run))) 𝓜 𝓡 code.env #inner inner-def.routine calls-inner (inner-thm.met 𝓤 H 𝓜 𝓖 𝓡)))
+    (cited 𝓤 H (tripleOf 𝓤 H (𝓖 .A) inner.signature (inner.spec 𝓤 H (𝓖 .A) (𝓜 .mem) (𝓡 .run))) 𝓜 𝓡 code.env #inner inner-def.routine calls-inner
+      (inner-thm.met 𝓤 H 𝓜 𝓖 𝓡)))

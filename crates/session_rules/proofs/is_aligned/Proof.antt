@@ -5,4 +5,6 @@ use Rattle.session_rules.proofs.is_aligned.Tie as tie
 pub is-aligned-spec : {M : Type 1} → statement M
 is-aligned-spec =
     tie.close (tie.spec
-    (λ c. search needs) (λ c. search needs) (λ c. search needs) (λ c. search needs) (λ c. search needs) (λ c. search needs) (λ c. search needs) (λ c. search needs) (λ c. simp (c .before .c .given .1)) (λ c. simp (c .before .c2 .given .1)) (λ c. search needs) (λ c. search needs) (λ c. search needs) (λ c. search needs))
+    (λ c. search needs) (λ c. search needs) (λ c. search needs) (λ c. search needs) (λ c. search needs) (λ c. search needs) (λ c. search needs)
+      (λ c. search needs) (λ c. simp (c .before .c .given .1)) (λ c. simp (c .before .c2 .given .1)) (λ c. search needs) (λ c. search needs)
+      (λ c. search needs) (λ c. search needs))

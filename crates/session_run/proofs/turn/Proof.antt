@@ -8,7 +8,7 @@ pub turn-spec : {M : Type 1} → statement M
 turn-spec =
     tie.close (tie.spec
     (λ c κs. search needs) (λ c κs. search needs) (λ c κs. search needs) (λ c. search needs) (λ c. search needs)
-    (λ c. let b4 = c .before .before .before .before in let b9 = b4 .before .before .before .before .before in let b11 = b9 .before .before in
-      let a = b11 .before .before .before .args in turn-of (a .s) (a .act) (a .t) (a .mem .now) (a .buf .now) (b11 .due .result) (b9 .over-line
+    (λ c. let b2 = c .before .before in let b7 = b2 .before .before .before .before .before in let b9 = b7 .before .before in
+      let a = b9 .before .before .before .args in turn-of (a .s) (a .act) (a .t) (a .mem .now) (a .buf .now) (b9 .due .result) (b7 .over-line
       .result)
-      (b4 .session-step .result) _ _ (b11 .due .ensures) (b9 .over-line .ensures .0) (b9 .over-line .ensures .1) (b4 .session-step .ensures)))
+      (b2 .session-step .result) _ _ (b9 .due .ensures) (b7 .over-line .ensures .0) (b7 .over-line .ensures .1) (b2 .session-step .ensures)))

@@ -8,9 +8,12 @@ use Rattle.target_run.proofs.run.Tie as tie
 
 returns : tie.Need-returns
 returns c =
-    let left = c .before .before in let drove = c .before .before .before .before .before .before .before .before .before .before .before .before .before .before .before in let began = drove .before .before .before .before .before .before .before .before .before .before .before in let rowed = began .before .before .before .before in let framed = rowed .before .before in
+    let left = c .before .before in let drove = c .before .before .before .before .before .before .before .before .before .before .before .before
+        .before .before .before in let began = drove .before .before .before .before .before .before .before .before .before .before .before in let
+        rowed = began .before .before .before .before in let framed = rowed .before .before in
     let a = framed .before .before .before .before .before .before .before .args in let frame = framed .frame-for .ensures in
-    rw (sym frame) (rw (sym (rowed .row-for .ensures)) (call-over (a .c) _ _ _ (a .budget) (a .acts .now) (a .t) _ _ _ _ _ _ _ _ _ _ _ _ _ _ _ _ frame (began .start .ensures) (drove .drive .ensures) (left .leave-frame .ensures)))
+    rw (sym frame) (rw (sym (rowed .row-for .ensures)) (call-over (a .c) _ _ _ (a .budget) (a .acts .now) (a .t) _ _ _ _ _ _ _ _ _ _ _ _ _ _ _ _
+        frame (began .start .ensures) (drove .drive .ensures) (left .leave-frame .ensures)))
 
 pub run-spec : {M : Type 1} → statement M
 run-spec =

@@ -9,6 +9,7 @@ turn-spec =
     tie.close (tie.spec
     (λ c κs. search needs) (λ c κs. search needs) (λ c κs. search needs) (λ c κs. search needs) (λ c κs. search needs)
     (λ c. search needs) (λ c. search needs) (λ c. search needs) (λ c. search needs) (λ c. search needs)
-    (λ c. let step = c .before .before .before .before in let hear = step .before .before .before .before .before .before in
-      let over = hear .before .before .before .before .before in let note = over .before .before .before .before in let due = note .before .before in
-      turns _ _ _ _ _ _ _ _ _ _ _ _ _ _ _ _ _ _ _ (due .due .ensures) (note .note .ensures) (over .over-line .ensures) (hear .hear .ensures) (step .step .ensures)))
+    (λ c. let step = c .before .before .before .before in let hear = step .before .before .before .before .before .before .before in
+      let over = hear .before .before .before .before in let note = over .before .before .before .before in let due = note .before .before in
+      turns _ _ _ _ _ _ _ _ _ _ _ _ _ _ _ _ _ _ _ (due .due .ensures) (note .note .ensures) (over .over-line .ensures) (hear .hear .ensures)
+        (step .step .ensures)))

@@ -9,20 +9,23 @@ use Rattle.transport.proofs.transfer_step.Tie as tie
 
 returns : tie.Need-returns
 unfolding tries
-returns c = λ e k. simp (c .before .before .before .before .before .before .enum-told5 .given .1) (simp (c .before .before .before .before .a4 .given .1) (simp (eq-eqb _ _ (c .before .before .if1 .taken)) (simp (c .if2 .taken))))
+returns c = λ e k. simp (c .before .before .before .before .before .before .enum-told5 .given .1) (simp (c .before .before .before .before .a4 .given
+    .1) (simp (eq-eqb _ _ (c .before .before .if1 .taken)) (simp (c .if2 .taken))))
 
 pub transfer-step-spec : {M : Type 1} → statement M
 transfer-step-spec =
     tie.close (tie.spec
     (λ c. search needs) (λ c. search needs) (λ c. search needs) (λ c. search needs) (λ c. search needs) (λ c. search needs) (λ c. search needs)
     (λ c. search needs) (λ c. search needs) returns (λ c. search needs)
-    (λ c. λ e k. simp (c .before .before .before .before .before .before .before .enum-told5 .given .1) (simp (c .before .before .before .before .before .a4 .given .1) (simp (eq-eqb _ _ (c .before .before .before .if1 .taken)) (tries-more _ _ _ k (c .before .if2 .left)))))
+    (λ c. λ e k. simp (c .before .before .before .before .before .before .before .enum-told5 .given .1) (simp (c .before .before .before .before
+      .before .a4 .given .1) (simp (eq-eqb _ _ (c .before .before .before .if1 .taken)) (tries-more _ _ _ k (c .before .if2 .left)))))
     (λ c. search needs) (λ c. search needs) (λ c. λ e k. simp (c .enum-told .given .1))
     (λ c. λ e k. simp (c .before .before .before .enum-told2 .given .1) (simp (c .before .a .given .1)))
     (λ c. λ e k. simp (c .before .before .before .enum-told2 .given .1) (simp (c .before .a2 .given .1)))
     (λ c. λ e k. simp (c .before .before .enum-told2 .given .1) (simp (c .enum-told3 .given .1)))
     (λ c. λ e k. simp (c .before .before .enum-told2 .given .1) (simp (c .enum-told4 .given .1)))
     (λ c. λ e k. simp (c .before .before .before .enum-told5 .given .1) (simp (c .before .a3 .given .1)))
-    (λ c. λ e k. simp (c .before .before .before .before .enum-told5 .given .1) (simp (c .before .before .a4 .given .1) (simp (ne-eqb _ _ (c .if1 .left)))))
+    (λ c. λ e k. simp (c .before .before .before .before .enum-told5 .given .1) (simp (c .before .before .a4 .given .1) (simp (ne-eqb _ _
+      (c .if1 .left)))))
     (λ c. λ e k. simp (c .before .before .enum-told5 .given .1) (simp (c .enum-told6 .given .1)))
     (λ c. λ e k. simp (c .before .before .enum-told5 .given .1) (simp (c .enum-told7 .given .1))))

@@ -1,0 +1,37 @@
+-- What follows each operation of a memory call. Serves the proofs only.
+use Prim.Native.Nat.{ℕ, _-_, _*_, _%_}
+use mathlib.Core.Bool.{Bool, true, false}
+use Rattle.transport.specs.declared.Outcome.{Outcome}
+use Rattle.transport.specs.declared.Outcome.the-variants.{Value, Failed}
+use Rattle.memap.specs.declared.Op.the-variants as O
+use Rattle.jobs.specs.Job.{Job, _>>_, return, fail, just, keeping}
+use Rattle.jobs.specs.declared.Change.the-variants as C
+use Rattle.memory.specs.Memory.{memFrom}
+use Rattle.memory.specs.declared.Mem.{Mem}
+use Rattle.memory.specs.declared.MemoryAt.{MemoryAt}
+use Rattle.memory.specs.declared.MemoryAt.the-variants as A
+
+-- the address and the place in the buffer of the turn m
+abbrev pub addrOf : Mem → ℕ
+addrOf m = m .stop - m .left
+
+abbrev pub placeOf : Mem → ℕ
+placeOf m = m .len - m .left
+
+-- the turns after one that moves `moved` bytes
+abbrev pub rest : Bool → Mem → ℕ → Job
+rest read m moved = memFrom read (m .stop) (m .len) (m .left - moved) 0
+
+abbrev pub goesOn : MemoryAt → ℕ → Job
+goesOn A.Whole v = return v
+goesOn (A.ReadRun m) v = keeping (C.StoreWords (placeOf m) (m .size)) >> rest true m (4 * m .size)
+goesOn (A.ReadPart m) v = keeping (C.StorePart (placeOf m) (addrOf m % 4) (m .size) v) >> rest true m (m .size)
+goesOn (A.WriteRun m) v = rest false m (4 * m .size)
+goesOn (A.PartRead m) v =
+    keeping (C.Patch (placeOf m) (addrOf m % 4) (m .size) v)
+    >> (just (O.WriteWords (addrOf m - addrOf m % 4) 1 0) >> rest false m (m .size))
+goesOn (A.PartWritten m) v = rest false m (m .size)
+
+abbrev pub memoryAfter : MemoryAt → Outcome → Job
+memoryAfter p (Value v) = goesOn p v
+memoryAfter p (Failed e) = fail e
