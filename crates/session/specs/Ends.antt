@@ -23,9 +23,8 @@ use Rattle.engine.specs.Step.{nextOf, memoryIn}
 use Rattle.engine.specs.declared.State.{State}
 use Rattle.engine.specs.declared.NextStep.{NextStep}
 use Rattle.engine.specs.declared.NextStep.the-variants as N
-use Rattle.session_phase.specs.Phase.{loss}
+use Rattle.session_phase.specs.Phase.{loss, phaseEnded}
 use Rattle.session_rules.specs.Session.{frameLeft}
-use Rattle.session_phase.specs.Ended.{phaseEnded}
 use Rattle.session.specs.Step.{phaseIn, frameIn, lostBy, Answers}
 use Rattle.session_phase.specs.declared.Kind.{Kind}
 use Rattle.session_phase.specs.declared.Kind.the-variants as K

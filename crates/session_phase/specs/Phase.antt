@@ -57,3 +57,7 @@ connects K.Plain = false
 
 abbrev pub phaseAfter : Kind → Bool → Outcome → Phase
 phaseAfter kind lost o = phaseOf (opensAfter (connects kind) lost (ended o))
+
+-- the same for code that knows whether the call succeeded
+abbrev pub phaseEnded : Kind → Bool → Bool → Phase
+phaseEnded kind lost ok = phaseOf (not lost && (ok || not (connects kind)))

@@ -1,7 +1,6 @@
 // When a session is open: it closes by a loss, by a call that is never brought to its end, and by a connect that failed.
 ghost use mathlib.Core.Path.{_≡_};
-ghost use Rattle.session_phase.specs.Phase.{loss, rememberedFor, isOpen};
-ghost use Rattle.session_phase.specs.Ended.{phaseEnded};
+ghost use Rattle.session_phase.specs.Phase.{loss, rememberedFor, isOpen, phaseEnded};
 use transport::{Answer, Remembered};
 
 // What the running call's end needs to know of it: a connect decides alone whether the session is open; call 23 leaves a frame.

@@ -22,7 +22,7 @@ use Rattle.target.specs.declared.Act.{Act}
 use Rattle.target_run.specs.Talk.{Talk, talk, silent}
 use Rattle.session_rules.specs.Admits.{isConnect, refusal}
 use Rattle.session_phase.specs.Phase.{opensAfter, isOpen, connects, phaseAfter}
-use Rattle.session_phase.specs.Ended.{open-phase}
+use Rattle.session_phase.specs.PhaseLaws.{open-phase}
 use Rattle.session_rules.specs.Session.{Standing, kindBy, kindOf, frameLeft, frameAfter, sessionTree}
 use Rattle.session.specs.Step.{phaseIn, frameIn, standing, Answers}
 use Rattle.session_rules.specs.declared.SessionCall.{SessionCall}
