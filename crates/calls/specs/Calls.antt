@@ -4,9 +4,8 @@ use mathlib.Core.Bool.{Bool, true, false}
 use mathlib.Core.List.{List, [], _∷_}
 use lib.ListN.{length, getD, replicate}
 use lib.Seq.{sets}
-use Rattle.transport.specs.Wire.{Wire, Memory}
+use Rattle.transport.specs.Wire.{Wire, memoryOf, Ending, succeeds}
 use Rattle.transport.specs.declared.Remembered.{Remembered}
-use Rattle.memap.specs.Flight.{memoryOf}
 use Rattle.jobs.specs.Job.{Job, exec}
 use Rattle.connect.specs.Connect.{connectJob}
 use Rattle.memory.specs.Memory.{memoryJob}
@@ -67,8 +66,8 @@ pick false words row = row
 abbrev pub callTree : EngineCall → Remembered → List ℕ → List ℕ → List ℕ → Wire
 callTree c r row words buf = exec (jobOf c (length words) (length buf)) (memoryOf r (pick (lent c) words row) buf)
 
--- A call that is run whole has a row of its own. Call 24 finds its frame in the caller's first eight words, and call 23 leaves
--- it there.
+-- A call that is run whole has a row of its own, and the caller lends eight words for a frame: call 24 finds it there, and call 23
+-- leaves it there.
 abbrev pub coreFrame : CoreCall → Frame
 coreFrame K.DebugEnable = F.Nowhere
 coreFrame K.Halt = F.Nowhere
@@ -89,25 +88,29 @@ frameFor (C.Core c) = coreFrame c
 frameFor (C.Fpb c) = F.Nowhere
 frameFor (C.Nrf c) = F.Nowhere
 
--- the first eight words; what is missing reads 0
+-- a row's first eight words
 abbrev pub frameOf : List ℕ → List ℕ
 frameOf ws =
     getD ws 0 0 ∷ getD ws 1 0 ∷ getD ws 2 0 ∷ getD ws 3 0 ∷ getD ws 4 0 ∷ getD ws 5 0 ∷ getD ws 6 0 ∷ getD ws 7 0 ∷ []
 
 abbrev pub rowWith : Frame → List ℕ → List ℕ
-rowWith F.Nowhere words = replicate 64 0
-rowWith F.Found words = sets (replicate 64 0) 0 (frameOf words)
-rowWith F.Left words = replicate 64 0
+rowWith F.Nowhere frame = replicate 64 0
+rowWith F.Found frame = sets (replicate 64 0) 0 (frameOf frame)
+rowWith F.Left frame = replicate 64 0
 
-abbrev pub leave : Frame → List ℕ → List ℕ → List ℕ
-leave F.Nowhere row words = words
-leave F.Found row words = words
-leave F.Left row words = sets words 0 (frameOf row)
+-- the frame afterwards; it is handed over only by a call that succeeded
+abbrev pub leave : Frame → Bool → List ℕ → List ℕ → List ℕ
+leave F.Nowhere ok row frame = frame
+leave F.Found ok row frame = frame
+leave F.Left ok row frame = pick ok (frameOf row) frame
 
 -- the row before the run of a call
 abbrev pub rowFor : EngineCall → List ℕ → List ℕ
-rowFor c words = rowWith (frameFor c) words
+rowFor c frame = rowWith (frameFor c) frame
 
--- the caller's words after it: the run leaves ws in what it runs over, and words₀ were the caller's
+-- After a run that ended with e and left ws in what it runs over: the caller's words and his frame, from what they were before.
 abbrev pub wordsLeft : EngineCall → List ℕ → List ℕ → List ℕ
-wordsLeft c ws words₀ = leave (frameFor c) ws (pick (lent c) ws words₀)
+wordsLeft c ws words₀ = pick (lent c) ws words₀
+
+abbrev pub frameLeft : EngineCall → Ending → List ℕ → List ℕ → List ℕ
+frameLeft c e ws frame₀ = leave (frameFor c) (succeeds e) ws frame₀

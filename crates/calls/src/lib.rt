@@ -1,10 +1,7 @@
-// Copyright 2026 Kenta Ida
-// SPDX-License-Identifier: Apache-2.0
-// Ported from arm-debug/src/lib.rs of ciniml/rust-dap.
-
 // One enum of all 35 calls. What a call asks for first and after each operation, over the groups; which words it runs over,
 // and where its frame is.
 ghost use mathlib.Core.Path.{_≡_};
+ghost use lib.ListN.{replicate};
 ghost use lib.Seq.{sets};
 ghost use Rattle.jobs.specs.Asks.{asks};
 ghost use Rattle.connect.specs.After.{connectAfter};
@@ -12,7 +9,7 @@ ghost use Rattle.memory.specs.After.{memoryAfter};
 ghost use Rattle.core.specs.After.{coreAfter};
 ghost use Rattle.fpb.specs.After.{fpbAfter};
 ghost use Rattle.nrf.specs.After.{nrfAfter};
-ghost use Rattle.calls.specs.Calls.{jobOf, lentWords, lentFlash, lent, frameOf, coreFrame, frameFor, rowWith, leave};
+ghost use Rattle.calls.specs.Calls.{jobOf, lentWords, lentFlash, lent, pick, frameOf, coreFrame, frameFor, rowWith, leave};
 ghost use Rattle.calls.specs.After.{callAfter, asksJob};
 use connect::{ConnectAsks, ConnectAt, ConnectCall};
 use core::{CoreAsks, CoreAt, CoreCall};
@@ -46,7 +43,7 @@ pub struct Asks {
     pub next: Next,
 }
 
-// What `run` does with the caller's first eight words: call 24 finds its frame there, call 23 leaves it there.
+// What a call does with the eight words that the caller lends for a frame: call 24 finds its frame there, call 23 leaves it there.
 pub enum Frame {
     Nowhere,
     Found,
@@ -198,42 +195,57 @@ pub fn frame_for(c: EngineCall) -> Frame
     }
 }
 
-// A frame from the first eight places of one list to those of another.
-pub fn copy_frame(from: &[u32], to: &mut [u32])
-    ensures { λ _. ⌜ now (to .exit) ≡ sets (now (to .entry)) 0 (frameOf (now (from .entry))) ⌝ }
+// A row with a frame in its first eight places.
+fn row_from(frame: [u32; 8]) -> [u32; 64]
+    ensures { λ r. ⌜ r ≡ sets (replicate 64 0) 0 (frameOf frame) ⌝ }
 {
-    memap::place_word(to, 0, memap::word_at(from, 0));
-    memap::place_word(to, 1, memap::word_at(from, 1));
-    memap::place_word(to, 2, memap::word_at(from, 2));
-    memap::place_word(to, 3, memap::word_at(from, 3));
-    memap::place_word(to, 4, memap::word_at(from, 4));
-    memap::place_word(to, 5, memap::word_at(from, 5));
-    memap::place_word(to, 6, memap::word_at(from, 6));
-    memap::place_word(to, 7, memap::word_at(from, 7));
+    let mut row = [0u32; 64];
+    row[0] = frame[0];
+    row[1] = frame[1];
+    row[2] = frame[2];
+    row[3] = frame[3];
+    row[4] = frame[4];
+    row[5] = frame[5];
+    row[6] = frame[6];
+    row[7] = frame[7];
+    row
 }
 
 // The row that a call runs over: zeros, and the frame that it finds.
-pub fn row_for(f: Frame, words: &[u32]) -> [u32; 64]
-    ensures { λ r. ⌜ r ≡ rowWith f (now (words .entry)) ⌝ }
+pub fn row_for(f: Frame, frame: [u32; 8]) -> [u32; 64]
+    ensures { λ r. ⌜ r ≡ rowWith f frame ⌝ }
 {
     match f {
         Frame::Nowhere => [0u32; 64],
-        Frame::Found => {
-            let mut row = [0u32; 64];
-            copy_frame(words, &mut row);
-            row
-        }
+        Frame::Found => row_from(frame),
         Frame::Left => [0u32; 64],
     }
 }
 
-// The frame that a call leaves goes to the caller's words.
-pub fn keep_frame(f: Frame, row: &[u32], words: &mut [u32])
-    ensures { λ _. ⌜ now (words .exit) ≡ leave f (now (row .entry)) (now (words .entry)) ⌝ }
+// The frame in a row's first eight words.
+fn frame_of(row: [u32; 64]) -> [u32; 8]
+    ensures { λ r. ⌜ r ≡ frameOf row ⌝ }
+{
+    [row[0], row[1], row[2], row[3], row[4], row[5], row[6], row[7]]
+}
+
+// A call that failed hands no frame over.
+fn handed_over(ok: bool, left: [u32; 8], before: [u32; 8]) -> [u32; 8]
+    ensures { λ r. ⌜ r ≡ pick ok left before ⌝ }
+{
+    if ok {
+        return left;
+    }
+    before
+}
+
+// The frame after a call.
+pub fn frame_left(f: Frame, ok: bool, row: [u32; 64], before: [u32; 8]) -> [u32; 8]
+    ensures { λ r. ⌜ r ≡ leave f ok row before ⌝ }
 {
     match f {
-        Frame::Nowhere => {}
-        Frame::Found => {}
-        Frame::Left => copy_frame(row, words),
+        Frame::Nowhere => before,
+        Frame::Found => before,
+        Frame::Left => handed_over(ok, frame_of(row), before),
     }
 }

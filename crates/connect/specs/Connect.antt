@@ -1,3 +1,4 @@
+-- Copyright 2026 Kenta Ida. SPDX-License-Identifier: Apache-2.0. Ported from arm-debug/src/lib.rs of ciniml/rust-dap.
 -- Connecting to a target (000: connect_multidrop to reselect, power_up to write_targetsel).
 use Prim.Native.Nat.{ℕ, zero, suc, _+_, _/_, _%_}
 use mathlib.Core.Bool.{Bool, _||_}

@@ -1,3 +1,4 @@
+-- Copyright 2026 Kenta Ida. SPDX-License-Identifier: Apache-2.0. Ported from arm-debug/src/lib.rs of ciniml/rust-dap.
 -- The core's run state and its registers (000: debug_enable to write_core_reg).
 use Prim.Native.Nat.{ℕ, zero, suc, _+_}
 use Rattle.transport.specs.declared.ArmError.the-variants as E

@@ -1,3 +1,4 @@
+-- Copyright 2026 Kenta Ida. SPDX-License-Identifier: Apache-2.0. Ported from arm-debug/src/lib.rs of ciniml/rust-dap.
 -- The bootrom's table of functions, and a function called on the halted core (000: rom_func_lookup to finish_function).
 -- Registers pass through the row: a frame stands in its places 0 to 7, and what a function starts with in 8 to 15.
 use Prim.Native.Nat.{ℕ, zero, suc, _+_, _-_, _*_, _/_, _%_, _^_}

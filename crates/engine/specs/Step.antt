@@ -4,14 +4,17 @@ use mathlib.Core.Bool.{Bool}
 use mathlib.Core.List.{List, []}
 use mathlib.Core.Path.{_≡_}
 use Rattle.transport.specs.Bytes.{handed, padded}
-use Rattle.transport.specs.Wire.{Wire, Memory, done, ask, tell}
-use Rattle.memap.specs.Flight.{memoryOf}
+use Rattle.transport.specs.Wire.{Wire, Memory, memoryOf, done, ask, tell, follow}
+use Rattle.transport.specs.declared.Answer.{Answer}
+use Rattle.transport.specs.declared.Outcome.{Outcome}
 use Rattle.numbers.specs.Results.{resultOf}
 use Rattle.numbers.specs.Numbers.{numbersOf}
 use Rattle.calls.specs.Calls.{pick}
 use Rattle.engine.specs.State.{stateTree}
 use Rattle.engine.specs.declared.NextStep.{NextStep}
 use Rattle.engine.specs.declared.NextStep.the-variants as N
+use Rattle.engine.specs.declared.State.{State}
+use Rattle.engine.specs.declared.Status.the-variants.{Ended}
 use Rattle.engine.specs.declared.StepAnswer.{StepAnswer}
 
 -- what comes next in a tree: a transport call, or how the call ended
@@ -32,21 +35,22 @@ memoryIn (done m o) = m
 memoryIn (ask m c f) = m
 memoryIn (tell m c w) = m
 
-abbrev pub Waits : Wire → Type 0
-Waits (done m o) = ⊥
-Waits (ask m c f) = Unit {0}
-Waits (tell m c w) = Unit {0}
-
--- The answer a reports the tree w: what comes next, its bytes, what is remembered, the words ws and the buffer b; and while
--- a transport call is due, its state stands for w.
+-- The answer a reports the tree w: what comes next, its bytes, what is remembered, the words ws and the buffer b; and its state
+-- stands for w.
 pub record Steps (w : Wire) (a : StepAnswer) (ws b : List ℕ) : Type 0 where
   pub next : a .next ≡ nextOf w
   pub bytes : a .bytes ≡ padded (bytesOf w)
   pub memory : memoryOf (a .state .remembered) ws b ≡ memoryIn w
-  pub tree : Waits w → w ≡ stateTree (a .state) ws b
+  pub tree : w ≡ stateTree (a .state) ws b
 
 -- The same over a row and the caller's words, of which `own` says which one the call runs over; the other is unchanged.
 pub record Lent (own : Bool) (w : Wire) (a : StepAnswer) (row₀ words₀ row words buf : List ℕ) : Type 0 where
   pub steps : Steps w a (pick own words row) buf
   pub other : pick own row words ≡ pick own row₀ words₀
   pub whose : a .state .own ≡ own
+
+-- A step from the state s. The tree of a call that has ended goes on as itself (`follow`): the same ending, no transport call, words
+-- and buffer as they were; and the state stays.
+pub record Stepped (s : State) (a : Answer) (x : StepAnswer) (row₀ words₀ buf₀ row words buf : List ℕ) : Type 0 where
+  pub lent : Lent (s .own) (follow (stateTree s (pick (s .own) words₀ row₀) buf₀) a) x row₀ words₀ row words buf
+  pub stays : (o : Outcome) → s .status ≡ Ended o → x .state ≡ s

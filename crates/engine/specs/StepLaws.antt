@@ -1,14 +1,27 @@
--- What comes next in the tree of a transfer in flight is the transport call that is due. Serves the proofs only.
-use mathlib.Core.Path.{_≡_, refl}
-use Rattle.transport.specs.Bytes.{handed}
-use Rattle.transport.specs.Wire.{Wire, Memory}
+-- What comes next in the tree of a transfer in flight is the transport call that is due; and where one is due, the call is under way.
+-- Serves the proofs only.
+use Prim.Native.Nat.{ℕ}
+use mathlib.Core.List.{List, []}
+use mathlib.Core.Path.{_≡_, refl, sym, ap, subst, _∙_}
+use native.Mathlib.Omega.{arith}
+use Rattle.transport.specs.Bytes.{handed, padded}
+use Rattle.transport.specs.Wire.{Wire, Memory, memoryOf, done, ask, tell, follow}
 use Rattle.transport.specs.Flight.{flight, dueOf}
+use Rattle.transport.specs.declared.Answer.{Answer}
 use Rattle.transport.specs.declared.Outcome.{Outcome}
 use Rattle.transport.specs.declared.Mode.{Mode}
 use Rattle.transport.specs.declared.Mode.the-variants as D
 use Rattle.transport.specs.declared.Transfer.{Transfer}
 use Rattle.numbers.specs.Numbers.{numbersOf}
-use Rattle.engine.specs.Step.{nextOf, bytesOf, memoryIn}
+use Rattle.numbers.specs.Results.{resultOf}
+use Rattle.numbers.specs.declared.CallEnding.{CallEnding}
+use Rattle.calls.specs.Calls.{pick}
+use Rattle.engine.specs.State.{flightTree, statusTree, stateTree}
+use Rattle.engine.specs.Step.{nextOf, bytesOf, memoryIn, Steps, Lent, Stepped}
+use Rattle.engine.specs.declared.State.{State}
+use Rattle.engine.specs.declared.StepAnswer.{StepAnswer}
+use Rattle.engine.specs.declared.Status.{Status}
+use Rattle.engine.specs.declared.Status.the-variants.{Running, Ended}
 use Rattle.engine.specs.declared.NextStep.the-variants as N
 
 pub record Due (m : Memory) (d : Mode) (t : Transfer) (w : Wire) : Type 0 where
@@ -20,3 +33,55 @@ pub flight-due : (d : Mode) (m : Memory) (t : Transfer) (k : Outcome → Wire) �
 flight-due D.Trying m t k = record { next = refl; bytes = refl; memory = refl }
 flight-due D.Aborting m t k = record { next = refl; bytes = refl; memory = refl }
 flight-due D.Raw m t k = record { next = refl; bytes = refl; memory = refl }
+
+-- a transport call is due
+abbrev pub Waits : Wire → Type 0
+Waits (done m o) = ⊥
+Waits (ask m c f) = Unit {0}
+Waits (tell m c w) = Unit {0}
+
+status-flies : (d : Status) (flight : Wire) (m : Memory) → Waits (statusTree d flight m) → statusTree d flight m ≡ flight
+status-flies Running flight m h = refl
+status-flies (Ended o) flight m h = absurd h
+
+pub flies : (w : Wire) (s : State) (ws b : List ℕ) → w ≡ stateTree s ws b → Waits w → w ≡ flightTree s ws b
+flies w s ws b e h = e ∙ status-flies (s .status) (flightTree s ws b) (memoryOf (s .remembered) ws b) (subst Waits e h)
+
+-- the state of an ended call stands for its end
+pub ended-tree : (o : Outcome) (s : State) (ws b : List ℕ) → s .status ≡ Ended o → done (memoryOf (s .remembered) ws b) o ≡ stateTree s ws b
+ended-tree o s ws b h = ap (λ (d : Status). statusTree d (flightTree s ws b) (memoryOf (s .remembered) ws b)) (sym h)
+
+-- an answer that tells the ending, and leaves the state
+pub tells-end : (o : Outcome) (s : State) (ws b : List ℕ) (e : CallEnding) → e ≡ resultOf o → s .status ≡ Ended o
+  → Steps (stateTree s ws b) (record { next = N.Finish e; state = s; bytes = padded [] }) ws b
+tells-end o s ws b e g h =
+    subst (λ (w : Wire). Steps w (record { next = N.Finish e; state = s; bytes = padded [] }) ws b) (ended-tree o s ws b h)
+    (record { next = ap N.Finish g; bytes = refl; memory = refl; tree = ended-tree o s ws b h })
+
+-- a step of a call under way
+pub moves : (s : State) (a : Answer) (x : StepAnswer) (row₀ words₀ buf₀ row words buf : List ℕ) → s .status ≡ Running
+  → Lent (s .own) (follow (flightTree s (pick (s .own) words₀ row₀) buf₀) a) x row₀ words₀ row words buf
+  → Stepped s a x row₀ words₀ buf₀ row words buf
+moves s a x row₀ words₀ buf₀ row words buf h l = record {
+    lent = subst (λ (d : Status). Lent (s .own) (follow (statusTree d flight (memoryOf (s .remembered) ws buf₀)) a) x row₀ words₀ row words buf)
+      (sym h) l;
+    stays = λ o e. let z : _≡_ {A = ℕ} 0 1 = cc in absurd (omega arith) }
+  where
+    ws : List ℕ
+    ws = pick (s .own) words₀ row₀
+
+    flight : Wire
+    flight = flightTree s ws buf₀
+
+-- a step of one that has ended
+pub stays-ended : (s : State) (o : Outcome) (a : Answer) (x : StepAnswer) (row words buf : List ℕ) → s .status ≡ Ended o
+  → ((ws b : List ℕ) → s .status ≡ Ended o → Steps (stateTree s ws b) x ws b) × (x .state ≡ s) → Stepped s a x row words buf row words buf
+stays-ended s o a x row words buf h y = record {
+    lent = record {
+      steps = subst (λ (w : Wire). Steps w x ws buf) (subst (λ (w : Wire). w ≡ follow w a) (ended-tree o s ws buf h) refl) (y .0 ws buf h);
+      other = refl;
+      whose = ap (λ (z : State). z .own) (y .1) };
+    stays = λ _ _. y .1 }
+  where
+    ws : List ℕ
+    ws = pick (s .own) words row

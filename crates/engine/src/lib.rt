@@ -1,30 +1,35 @@
-// Copyright 2026 Kenta Ida
-// SPDX-License-Identifier: Apache-2.0
-// Ported from arm-debug/src/lib.rs of ciniml/rust-dap.
-
 // The engine's calls, step by step: a step takes the last answer and what the caller lends, and answers with the next
 // transport call or the call's ending.
 ghost use mathlib.Core.Path.{_≡_};
 ghost use mathlib.Core.List.{List};
 ghost use Prim.Native.Nat.{ℕ};
 ghost use lib.ListN.{length};
-ghost use Rattle.transport.specs.Wire.{done, follow};
-ghost use Rattle.memap.specs.Flight.{memoryOf, startedTree};
+ghost use Rattle.transport.specs.Wire.{memoryOf, done, follow};
+ghost use Rattle.memap.specs.Flight.{startedTree};
+ghost use Rattle.jobs.specs.Change.{fresh};
 ghost use Rattle.jobs.specs.Job.{exec};
 ghost use Rattle.jobs.specs.Asks.{thenOf, nextJob};
 ghost use Rattle.calls.specs.Calls.{jobOf, lent, pick, callTree};
 ghost use Rattle.calls.specs.After.{callAfter, asksJob};
-ghost use Rattle.engine.specs.State.{stateTree};
-ghost use Rattle.engine.specs.Step.{Steps, Lent};
+ghost use Rattle.engine.specs.State.{flightTree, stateTree};
+ghost use Rattle.engine.specs.declared.Status.the-variants.{Ended};
+ghost use Rattle.engine.specs.Step.{Steps, Lent, Stepped};
 use calls::{Asks, At, EngineCall};
 use jobs::Next;
 use memap::{Op, Started, Went};
 use numbers::{CallEnding, TransportCall};
 use transport::{Answer, Outcome, Remembered};
 
-// A call in flight. `own`: it runs over the caller's own words.
+// Whether a call is under way, or how it ended.
+pub enum Status {
+    Running,
+    Ended(Outcome),
+}
+
+// A call and what is remembered. `at` and `started` are what is in flight while it runs; `own`: it runs over the caller's own words.
 pub struct State {
     pub remembered: Remembered,
+    pub status: Status,
     pub at: At,
     pub started: Started,
     pub own: bool,
@@ -41,6 +46,13 @@ pub struct StepAnswer {
     pub bytes: [u8; 16],
 }
 
+// The engine before its first call: nothing is known of the target.
+pub fn new() -> Remembered
+    ensures { λ r. ⌜ r ≡ fresh ⌝ }
+{
+    jobs::new()
+}
+
 // The transport call of a state is due.
 fn go(r: Remembered, p: At, s: Started, own: bool) -> StepAnswer
     ensures { λ x. ⌜ ((ws b : List ℕ) → Steps (startedTree s (thenOf (callAfter p)) (memoryOf r ws b)) x ws b) × (x .state .own ≡ own) ⌝ }
@@ -48,16 +60,16 @@ fn go(r: Remembered, p: At, s: Started, own: bool) -> StepAnswer
     let c = transport::due(s.launched.transfer);
     let n = numbers::numbers_of(c);
     let b = numbers::bytes_of(c);
-    StepAnswer { next: NextStep::Make(n), state: State { remembered: r, at: p, started: s, own: own }, bytes: b }
+    StepAnswer { next: NextStep::Make(n), state: State { remembered: r, status: Status::Running, at: p, started: s, own: own }, bytes: b }
 }
 
-// The call has ended: its state stands for nothing more.
+// The call has ended, and its state says how. `started` stands for nothing.
 fn over(r: Remembered, p: At, o: Outcome, own: bool) -> StepAnswer
     ensures { λ x. ⌜ ((ws b : List ℕ) → Steps (done (memoryOf r ws b) o) x ws b) × (x .state .own ≡ own) ⌝ }
 {
     let s = memap::op_start(r, Op::DpRead { addr: 0 });
     let e = numbers::result_of(o);
-    StepAnswer { next: NextStep::Finish(e), state: State { remembered: r, at: p, started: s, own: own }, bytes: [0u8; 16] }
+    StepAnswer { next: NextStep::Finish(e), state: State { remembered: r, status: Status::Ended(o), at: p, started: s, own: own }, bytes: [0u8; 16] }
 }
 
 // What is asked for is begun, or the call ends.
@@ -82,16 +94,16 @@ fn asked(r: Remembered, a: Asks, own: bool, ws: &mut [u32], buf: &mut [u8]) -> S
 }
 
 // The start of a call over the words ws, where the caller has lent so many words. `own`: ws are these.
-pub fn start_over(r: Remembered, c: EngineCall, own: bool, words: usize, ws: &mut [u32], buf: &mut [u8]) -> StepAnswer
+fn start_over(r: Remembered, c: EngineCall, own: bool, words: usize, ws: &mut [u32], buf: &mut [u8]) -> StepAnswer
     ensures { λ x. ⌜ Steps (exec (jobOf c words (length (now (buf .entry)))) (memoryOf r (now (ws .entry)) (now (buf .entry)))) x (now (ws .exit)) (now (buf .exit)) × (x .state .own ≡ own) ⌝ }
 {
     let n = buf.len();
     asked(r, calls::call_start(c, words, n), own, ws, buf)
 }
 
-// One step over the words of the call's runs.
-pub fn step_over(s: State, a: Answer, ws: &mut [u32], buf: &mut [u8]) -> StepAnswer
-    ensures { λ x. ⌜ Steps (follow (stateTree s (now (ws .entry)) (now (buf .entry))) a) x (now (ws .exit)) (now (buf .exit)) × (x .state .own ≡ s .own) ⌝ }
+// One step of a call under way, over the words of its runs.
+fn step_over(s: State, a: Answer, ws: &mut [u32], buf: &mut [u8]) -> StepAnswer
+    ensures { λ x. ⌜ Steps (follow (flightTree s (now (ws .entry)) (now (buf .entry))) a) x (now (ws .exit)) (now (buf .exit)) × (x .state .own ≡ s .own) ⌝ }
 {
     let r = s.remembered;
     let p = s.at;
@@ -113,12 +125,32 @@ pub fn start(r: Remembered, c: EngineCall, row: &mut [u32; 64], words: &mut [u32
     start_over(r, c, false, n, row, buf)
 }
 
-// One step: the last answer in, the next transport call or the ending out.
-pub fn step(s: State, a: Answer, row: &mut [u32; 64], words: &mut [u32], buf: &mut [u8]) -> StepAnswer
-    ensures { λ x. ⌜ Lent (s .own) (follow (stateTree s (pick (s .own) (now (words .entry)) (now (row .entry))) (now (buf .entry))) a) x (now (row .entry)) (now (words .entry)) (now (row .exit)) (now (words .exit)) (now (buf .exit)) ⌝ }
+// A call that has ended answers its ending again.
+fn stay(s: State, o: Outcome) -> StepAnswer
+    ensures { λ x. ⌜ ((ws b : List ℕ) → s .status ≡ Ended o → Steps (stateTree s ws b) x ws b) × (x .state ≡ s) ⌝ }
+{
+    let e = numbers::result_of(o);
+    StepAnswer { next: NextStep::Finish(e), state: s, bytes: [0u8; 16] }
+}
+
+// One step of a call under way, over the words that its state names.
+fn go_on(s: State, a: Answer, row: &mut [u32; 64], words: &mut [u32], buf: &mut [u8]) -> StepAnswer
+    ensures { λ x. ⌜ Lent (s .own) (follow (flightTree s (pick (s .own) (now (words .entry)) (now (row .entry))) (now (buf .entry))) a) x (now (row .entry)) (now (words .entry)) (now (row .exit)) (now (words .exit)) (now (buf .exit)) ⌝ }
 {
     if s.own {
         return step_over(s, a, words, buf);
     }
     step_over(s, a, row, buf)
+}
+
+// One step: the last answer in, the next transport call or the ending out. A call that has ended answers its ending again, makes
+// no transport call and changes nothing.
+pub fn step(s: State, a: Answer, row: &mut [u32; 64], words: &mut [u32], buf: &mut [u8]) -> StepAnswer
+    ensures { λ x. ⌜ Stepped s a x (now (row .entry)) (now (words .entry)) (now (buf .entry)) (now (row .exit)) (now (words .exit)) (now (buf .exit)) ⌝ }
+{
+    let status = s.status;
+    match status {
+        Status::Running => go_on(s, a, row, words, buf),
+        Status::Ended(o) => stay(s, o),
+    }
 }

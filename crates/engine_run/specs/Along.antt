@@ -7,7 +7,7 @@ use native.Mathlib.Omega.{arith}
 use native.Mathlib.Numerals.{add-one}
 use lib.ListN.{length, drop, take, getD, set, drop-of-length-le, length-take}
 use lib.Seq.{drop-cons, getD-take}
-use Rattle.transport.specs.Wire.{Wire, Memory, follow, play, Played, made, spent}
+use Rattle.transport.specs.Wire.{Wire, Memory, memoryOf, follow, play, Played, made, spent}
 use Rattle.transport.specs.Transfer.{transfer, tries}
 use Rattle.transport.specs.Flight.{flight, transferTree, dueOf}
 use Rattle.transport.specs.declared.Call.{Call}
@@ -23,7 +23,7 @@ use Rattle.transport.specs.declared.Transfer.{Transfer}
 use Rattle.transport.specs.declared.Remembered.{Remembered}
 use Rattle.memap.specs.Action.{Then, transferring}
 use Rattle.memap.specs.Words.{pull, push}
-use Rattle.memap.specs.Flight.{memoryOf, next, pull-more, push-more}
+use Rattle.memap.specs.Flight.{next, pull-more, push-more}
 use Rattle.numbers.specs.Log.{answerOf, codeOf, callOf}
 use Rattle.engine_run.specs.Run.{within, logged, Readable}
 

@@ -4,17 +4,17 @@ use mathlib.Core.Path.{_≡_}
 use mathlib.Core.List.{List, map}
 use lib.ListN.{length, take}
 use lib.Seq.{sets}
-use Rattle.transport.specs.Wire.{Played}
+use Rattle.transport.specs.Wire.{memoryOf, Played}
 use Rattle.transport.specs.declared.Call.{Call}
 use Rattle.transport.specs.declared.Answer.{Answer}
-use Rattle.memap.specs.Flight.{memoryOf}
 use Rattle.numbers.specs.Results.{endingOf}
 use Rattle.numbers.specs.Log.{answerOf, codeOf, callOf}
-use Rattle.calls.specs.Calls.{wordsLeft}
+use Rattle.calls.specs.Calls.{wordsLeft, frameLeft}
 use Rattle.calls.specs.declared.EngineCall.{EngineCall}
 use Rattle.engine_run.specs.declared.Ran.{Ran}
 
--- as many answers as the budget admits
+-- The answers that a call gets: as many as the budget admits. They are what is left of the budget, so that fewer answers are a
+-- smaller budget.
 abbrev pub within : ℕ → List ℕ → List Answer
 within budget xs = map answerOf (take budget xs)
 
@@ -34,11 +34,12 @@ pub record Reports (p : Played) (r : Ran) (ws b l₀ l : List ℕ) : Type 0 wher
   pub log : l ≡ logged l₀ 0 (p .calls)
   pub readable : Readable (p .calls)
 
--- the same over the caller's words
-pub record RanAs (c : EngineCall) (p : Played) (r : Ran) (words₀ words b l₀ l : List ℕ) : Type 0 where
+-- the same over what the caller lends: his frame and his words; frame₀ and words₀ were there before
+pub record RanAs (c : EngineCall) (p : Played) (r : Ran) (frame₀ words₀ frame words b l₀ l : List ℕ) : Type 0 where
   pub count : r .count ≡ length (p .calls)
   pub ending : r .ending ≡ endingOf (p .ending)
   pub remembered : r .remembered ≡ p .memory .remembered
+  pub framed : frame ≡ frameLeft c (p .ending) (p .memory .words) frame₀
   pub lent : words ≡ wordsLeft c (p .memory .words) words₀
   pub buf : b ≡ p .memory .buf
   pub log : l ≡ logged l₀ 0 (p .calls)

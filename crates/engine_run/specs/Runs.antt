@@ -4,14 +4,15 @@ use mathlib.Core.Bool.{Bool, true, false, true≢false}
 use mathlib.Core.Path.{_≡_, refl, sym, ap, subst, _∙_}
 use mathlib.Core.List.{List, []}
 use native.Mathlib.Omega.{arith}
-use Rattle.transport.specs.Wire.{Wire, Memory, done, play, Played, Ending, ended, spent}
+use lib.Dec.{eqb}
+use Rattle.transport.specs.Wire.{Wire, Memory, memoryOf, done, play, Played, Ending, ended, spent}
 use Rattle.transport.specs.Flight.{transferTree}
 use Rattle.transport.specs.declared.Answer.{Answer}
 use Rattle.transport.specs.declared.Outcome.{Outcome}
 use Rattle.transport.specs.declared.Transfer.{Transfer}
 use Rattle.transport.specs.declared.Remembered.{Remembered}
 use Rattle.memap.specs.Action.{Then, Action}
-use Rattle.memap.specs.Flight.{memoryOf, reachAfter, opAfter, startedTree}
+use Rattle.memap.specs.Flight.{reachAfter, opAfter, startedTree}
 use Rattle.memap.specs.Ops.{perform}
 use Rattle.memap.specs.declared.Op.{Op}
 use Rattle.memap.specs.declared.Started.{Started}
@@ -21,7 +22,9 @@ use Rattle.jobs.specs.Asks.{nextJob, thenOf, then-is, exec-op}
 use Rattle.jobs.specs.declared.Next.{Next}
 use Rattle.jobs.specs.declared.Next.the-variants as X
 use Rattle.numbers.specs.Results.{resultOf, endingOf}
-use Rattle.calls.specs.Calls.{lent, pick, frameFor, leave, wordsLeft}
+use Rattle.numbers.specs.ResultLaws.{number-tells}
+use Rattle.numbers.specs.declared.CallEnding.{CallEnding}
+use Rattle.calls.specs.Calls.{lent, pick, frameFor, leave, wordsLeft, frameLeft}
 use Rattle.calls.specs.After.{callAfter, asksJob, asks-next}
 use Rattle.calls.specs.declared.Asks.{Asks}
 use Rattle.calls.specs.declared.EngineCall.{EngineCall}
@@ -148,29 +151,35 @@ pub spent-at : (i : ℕ) (l₀ l : List ℕ) (p : Played) (r : Remembered) (ws b
   → Reports p (record { count = i; ending = endingOf spent; remembered = r }) ws b l₀ l
 spent-at i l₀ l p r ws b al = reports-none i l₀ l p spent _ ws b al refl refl
 
--- a report over the words of the call's runs is one over the caller's words
-reports-ran : (c : EngineCall) (p : Played) (r : Ran) (ws words₀ words b l₀ l : List ℕ) → words ≡ wordsLeft c ws words₀
-  → Reports p r ws b l₀ l → RanAs c p r words₀ words b l₀ l
-reports-ran c p r ws words₀ words b l₀ l e h =
+-- a report over the words of the call's runs is one over what the caller lends
+reports-ran : (c : EngineCall) (p : Played) (r : Ran) (ws frame₀ words₀ frame words b l₀ l : List ℕ)
+  → frame ≡ leave (frameFor c) (eqb (r .ending .number) 0) ws frame₀ → words ≡ wordsLeft c ws words₀
+  → Reports p r ws b l₀ l → RanAs c p r frame₀ words₀ frame words b l₀ l
+reports-ran c p r ws frame₀ words₀ frame words b l₀ l f e h =
     record { count = h .count; ending = h .ending; remembered = ap (λ (m : Memory). m .remembered) (h .memory);
+      framed = f ∙ ap (λ (z : CallEnding). leave (frameFor c) (eqb (z .number) 0) ws frame₀) (h .ending)
+        ∙ ap (λ (ok : Bool). leave (frameFor c) ok ws frame₀) (number-tells (p .ending))
+        ∙ ap (λ (m : Memory). frameLeft c (p .ending) (m .words) frame₀) (h .memory);
       lent = e ∙ ap (λ (m : Memory). wordsLeft c (m .words) words₀) (h .memory); buf = ap (λ (m : Memory). m .buf) (h .memory);
       log = h .log; readable = h .readable }
 
-own-left : (c : EngineCall) (ws words₀ : List ℕ) → true ≡ lent c → ws ≡ wordsLeft c ws words₀
-own-left (C.Connect c) ws words₀ e = absurd (true≢false e)
-own-left (C.Memory c) ws words₀ e = ap (λ (b : Bool). pick b ws words₀) e
-own-left (C.Core c) ws words₀ e = absurd (true≢false e)
-own-left (C.Fpb c) ws words₀ e = absurd (true≢false e)
-own-left (C.Nrf c) ws words₀ e = ap (λ (b : Bool). pick b ws words₀) e
+-- no call that runs over the caller's words has a frame
+pub own-frame : (c : EngineCall) (ok : Bool) (ws frame : List ℕ) → true ≡ lent c → frame ≡ leave (frameFor c) ok ws frame
+own-frame (C.Connect c) ok ws frame e = refl
+own-frame (C.Memory c) ok ws frame e = refl
+own-frame (C.Core c) ok ws frame e = absurd (true≢false e)
+own-frame (C.Fpb c) ok ws frame e = refl
+own-frame (C.Nrf c) ok ws frame e = refl
 
 -- of a call that runs over the caller's words
-pub own-ran : (c : EngineCall) (p : Played) (r : Ran) (ws words₀ b l₀ l : List ℕ) → true ≡ lent c
-  → Reports p r ws b l₀ l → RanAs c p r words₀ ws b l₀ l
-own-ran c p r ws words₀ b l₀ l e h = reports-ran c p r ws words₀ ws b l₀ l (own-left c ws words₀ e) h
+pub own-ran : (c : EngineCall) (p : Played) (r : Ran) (ws frame words₀ b l₀ l : List ℕ) → true ≡ lent c
+  → Reports p r ws b l₀ l → RanAs c p r frame words₀ frame ws b l₀ l
+own-ran c p r ws frame words₀ b l₀ l e h =
+    reports-ran c p r ws frame words₀ frame ws b l₀ l (own-frame c _ ws frame e) (ap (λ (own : Bool). pick own ws words₀) e) h
 
 -- and of one that runs over a row
-pub row-ran : (c : EngineCall) (f : Frame) (p : Played) (r : Ran) (ws words₀ words b l₀ l : List ℕ) → false ≡ lent c → f ≡ frameFor c
-  → Reports p r ws b l₀ l → words ≡ leave f ws words₀ → RanAs c p r words₀ words b l₀ l
-row-ran c f p r ws words₀ words b l₀ l e g h k =
-    reports-ran c p r ws words₀ words b l₀ l
-    (k ∙ ap (λ (f : Frame). leave f ws words₀) g ∙ ap (λ (b : Bool). leave (frameFor c) ws (pick b ws words₀)) e) h
+pub row-ran : (c : EngineCall) (f : Frame) (p : Played) (r : Ran) (ws frame₀ frame words b l₀ l : List ℕ) → false ≡ lent c → f ≡ frameFor c
+  → Reports p r ws b l₀ l → frame ≡ leave f (eqb (r .ending .number) 0) ws frame₀ → RanAs c p r frame₀ words frame words b l₀ l
+row-ran c f p r ws frame₀ frame words b l₀ l e g h k =
+    reports-ran c p r ws frame₀ words frame words b l₀ l (k ∙ ap (λ (f : Frame). leave f (eqb (r .ending .number) 0) ws frame₀) g)
+    (ap (λ (own : Bool). pick own ws words) e) h

@@ -1,15 +1,10 @@
-// Copyright 2026 Kenta Ida
-// SPDX-License-Identifier: Apache-2.0
-// Ported from arm-debug/src/lib.rs of ciniml/rust-dap.
-
 // A whole call of the engine over a budget of answers.
 ghost use mathlib.Core.Path.{_≡_};
 ghost use Prim.Native.Nat.{_≤_};
 ghost use lib.ListN.{length, take};
-ghost use Rattle.transport.specs.Wire.{play};
+ghost use Rattle.transport.specs.Wire.{memoryOf, play};
 ghost use Rattle.memap.specs.Words.{pull, push};
 ghost use Rattle.memap.specs.Ops.{perform};
-ghost use Rattle.memap.specs.Flight.{memoryOf};
 ghost use Rattle.jobs.specs.Job.{exec};
 ghost use Rattle.calls.specs.Calls.{callTree, rowFor};
 ghost use Rattle.calls.specs.After.{asksJob};
@@ -236,9 +231,11 @@ fn run_on(before: Remembered, start: Asks, budget: u32, answers: &[u64], ws: &mu
     }
 }
 
-// A whole call over a budget of answers. The log gets each transport call's number, as far as it reaches.
-pub fn run(r: Remembered, c: EngineCall, budget: u32, answers: &[u64], words: &mut [u32], buf: &mut [u8], log: &mut [u64]) -> Ran
-    ensures { λ x. ⌜ RanAs c (play (callTree c r (rowFor c (now (words .entry))) (now (words .entry)) (now (buf .entry))) (within budget (now (answers .entry)))) x (now (words .entry)) (now (words .exit)) (now (buf .exit)) (now (log .entry)) (now (log .exit)) ⌝ }
+// A whole call over a budget. The answers are what is left of the budget: where there are fewer, the budget is as many as they are.
+// Call 24 finds its frame in `frame`; call 23 leaves its frame there if it succeeds. The log gets each transport call's number, as
+// far as it reaches.
+pub fn run(r: Remembered, c: EngineCall, budget: u32, answers: &[u64], frame: &mut [u32; 8], words: &mut [u32], buf: &mut [u8], log: &mut [u64]) -> Ran
+    ensures { λ x. ⌜ RanAs c (play (callTree c r (rowFor c (now (frame .entry))) (now (words .entry)) (now (buf .entry))) (within budget (now (answers .entry)))) x (now (frame .entry)) (now (words .entry)) (now (frame .exit)) (now (words .exit)) (now (buf .exit)) (now (log .entry)) (now (log .exit)) ⌝ }
 {
     let n = words.len();
     let m = buf.len();
@@ -247,8 +244,9 @@ pub fn run(r: Remembered, c: EngineCall, budget: u32, answers: &[u64], words: &m
         return run_on(r, a, budget, answers, words, buf, log);
     }
     let f = calls::frame_for(c);
-    let mut row = calls::row_for(f, words);
+    let before = *frame;
+    let mut row = calls::row_for(f, before);
     let ran = run_on(r, a, budget, answers, &mut row, buf, log);
-    calls::keep_frame(f, &row, words);
+    *frame = calls::frame_left(f, ran.ending.number == 0, row, before);
     ran
 }

@@ -1,3 +1,4 @@
+-- Copyright 2026 Kenta Ida. SPDX-License-Identifier: Apache-2.0. Ported from arm-debug/src/lib.rs of ciniml/rust-dap.
 -- The Flash Patch and Breakpoint unit's registers and bits (000: module fpb).
 use Prim.Native.Nat.{ℕ}
 

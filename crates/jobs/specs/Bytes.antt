@@ -1,3 +1,4 @@
+-- Copyright 2026 Kenta Ida. SPDX-License-Identifier: Apache-2.0. Ported from arm-debug/src/lib.rs of ciniml/rust-dap.
 -- Words and bytes, lowest byte first (000: to_le_bytes and from_le_bytes in read_mem and write_mem).
 -- What falls outside a list is dropped; what is missing reads 0.
 use Prim.Native.Nat.{ℕ, zero, suc, _+_, _*_}

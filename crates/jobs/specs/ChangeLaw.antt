@@ -2,8 +2,8 @@
 use Prim.Native.Nat.{ℕ}
 use mathlib.Core.List.{List}
 use mathlib.Core.Path.{_≡_}
+use Rattle.transport.specs.Wire.{memoryOf}
 use Rattle.transport.specs.declared.Remembered.{Remembered}
-use Rattle.memap.specs.Flight.{memoryOf}
 use Rattle.jobs.specs.Change.{changed, rememberedAfter, wordsAfter, bufAfter}
 use Rattle.jobs.specs.declared.Change.{Change}
 

@@ -8,10 +8,10 @@ ghost use mathlib.Core.Path.{_≡_};
 ghost use Prim.Native.Nat.{_+_, _*_, _^_, _<_, min};
 ghost use lib.ListN.{length, set, getD, drop};
 ghost use lib.Seq.{sets};
+ghost use Rattle.transport.specs.Wire.{memoryOf};
 ghost use Rattle.transport.specs.Bytes.{leBytes};
 ghost use Rattle.jobs.specs.Bytes.{leWord, storeWords, storePart, loadWords, patchWord, fromPlace};
-ghost use Rattle.memap.specs.Flight.{memoryOf};
-ghost use Rattle.jobs.specs.Change.{rememberedAfter, wordsAfter, bufAfter, changed, XPSR-THUMB};
+ghost use Rattle.jobs.specs.Change.{fresh, rememberedAfter, wordsAfter, bufAfter, changed, XPSR-THUMB};
 use memap::Op;
 use transport::{Outcome, Remembered};
 
@@ -40,13 +40,20 @@ pub enum Next {
     End(Outcome),
 }
 
+// A new engine knows nothing of the target.
+pub fn new() -> Remembered
+    ensures { λ r. ⌜ r ≡ fresh ⌝ }
+{
+    Remembered { select: 0xFFFFFFFF, csw: false, apsel: 0 }
+}
+
 // What is remembered after a change.
 fn remembered_after(c: Change, r: Remembered) -> Remembered
     ensures { λ x. ⌜ x ≡ rememberedAfter c r ⌝ }
 {
     match c {
         Change::Nothing => r,
-        Change::New => Remembered { select: 0xFFFFFFFF, csw: false, apsel: 0 },
+        Change::New => new(),
         Change::Forget => Remembered { select: 0xFFFFFFFF, csw: false, apsel: r.apsel },
         Change::SelectZero => Remembered { select: 0, csw: r.csw, apsel: r.apsel },
         Change::Apsel(a) => {

@@ -5,7 +5,7 @@ use mathlib.Core.List.{List}
 use mathlib.Core.Path.{_≡_, refl, ap}
 use native.Mathlib.Omega.{arith}
 use lib.Dec.{eqb}
-use Rattle.transport.specs.Wire.{Wire, Memory}
+use Rattle.transport.specs.Wire.{Wire, Memory, memoryOf}
 use Rattle.transport.specs.Flight.{transferTree}
 use Rattle.transport.specs.declared.Remembered.{Remembered}
 use Rattle.transport.specs.declared.ArmError.{ArmError}
@@ -27,9 +27,6 @@ use Rattle.memap.specs.declared.OpNext.{OpNext}
 use Rattle.memap.specs.declared.OpNext.the-variants as N
 use Rattle.memap.specs.declared.Went.{Went}
 use Rattle.memap.specs.declared.Went.the-variants.{Moving, Finished}
-
-abbrev pub memoryOf : Remembered → List ℕ → List ℕ → Memory
-memoryOf r ws b = record { remembered = r; words = ws; buf = b }
 
 -- a value that is not handed on
 abbrev pub unit : Then → Then

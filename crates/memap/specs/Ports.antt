@@ -1,3 +1,4 @@
+-- Copyright 2026 Kenta Ida. SPDX-License-Identifier: Apache-2.0. Ported from arm-debug/src/lib.rs of ciniml/rust-dap.
 -- Registers of the debug port and of an access port (000: dp_read to ap_read, ensure_csw). A request has APnDP 1, RnW 2,
 -- A2 4 and A3 8. SELECT is written only where it differs from the one remembered, and remembered after its Ok only; so is CSW.
 use Prim.Native.Nat.{ℕ, _+_, _*_, _/_, _%_}

@@ -1,3 +1,4 @@
+-- Copyright 2026 Kenta Ida. SPDX-License-Identifier: Apache-2.0. Ported from arm-debug/src/lib.rs of ciniml/rust-dap.
 -- Words of the target's memory (000: read_word to write_words). The words of a run stand in the memory's row: the last one
 -- at place `last`, the others before it.
 use Prim.Native.Nat.{ℕ, zero, suc, _-_, _/_, _%_, min}

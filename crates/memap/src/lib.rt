@@ -8,7 +8,7 @@ ghost use mathlib.Core.Bool.{true};
 ghost use mathlib.Core.List.{List};
 ghost use Prim.Native.Nat.{ℕ, _-_};
 ghost use lib.ListN.{set, getD};
-ghost use Rattle.transport.specs.Wire.{Memory, follow};
+ghost use Rattle.transport.specs.Wire.{Memory, memoryOf, follow};
 ghost use Rattle.transport.specs.Transfer.{transfer, raw};
 ghost use Rattle.transport.specs.Flight.{transferTree};
 ghost use Rattle.memap.specs.Action.{Then, transferring};
@@ -16,7 +16,7 @@ ghost use Rattle.memap.specs.Ports.{apAccess, cswKnown, DRW};
 ghost use Rattle.memap.specs.Words.{place, pull, push};
 ghost use Rattle.memap.specs.Ops.{perform};
 ghost use Rattle.transport.specs.declared.Outcome.the-variants.{Value};
-ghost use Rattle.memap.specs.Flight.{memoryOf, next, stageAfter, reachAfter, launchedTree, dataAt, atTar, ensuringTask, phaseAfter, opAfter, startedTree, nextTree, wentTree};
+ghost use Rattle.memap.specs.Flight.{next, stageAfter, reachAfter, launchedTree, dataAt, atTar, ensuringTask, phaseAfter, opAfter, startedTree, nextTree, wentTree};
 use transport::{Answer, Call, Outcome, Remembered, Transfer};
 
 // What follows an access's transfer: while `selecting`, the transfer `request` with `word`.

@@ -1,3 +1,4 @@
+-- Copyright 2026 Kenta Ida. SPDX-License-Identifier: Apache-2.0. Ported from arm-debug/src/lib.rs of ciniml/rust-dap.
 -- Nordic chips: protection, mass erase and flash (000: nrf52_approtect_status to nrf54_program).
 -- A transfer that fails ends the call at its place, and APSEL stays as it was set.
 use Prim.Native.Nat.{ℕ, zero, suc, _+_, _-_, _*_, _%_}

@@ -1,3 +1,4 @@
+-- Copyright 2026 Kenta Ida. SPDX-License-Identifier: Apache-2.0. Ported from arm-debug/src/lib.rs of ciniml/rust-dap.
 -- The nRF52's debug registers (000: module nrf52; nRF52 product specification, CTRL-AP and NVMC).
 use Prim.Native.Nat.{ℕ}
 

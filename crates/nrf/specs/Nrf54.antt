@@ -1,3 +1,4 @@
+-- Copyright 2026 Kenta Ida. SPDX-License-Identifier: Apache-2.0. Ported from arm-debug/src/lib.rs of ciniml/rust-dap.
 -- The nRF54's debug registers (000: module nrf54). Those of its CTRL-AP lie as the nRF52's.
 use Prim.Native.Nat.{ℕ}
 

@@ -1,4 +1,5 @@
 pub mod Results
+pub mod ResultLaws
 pub mod Numbers
 pub mod Log
 pub mod LogLaws

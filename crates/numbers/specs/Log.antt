@@ -13,7 +13,8 @@ abbrev pub pickAnswer : Bool → Answer → Answer → Answer
 pickAnswer true a b = a
 pickAnswer false a b = b
 
--- an answer: 01's code (0 Ok, 1 SwdError, 2 NotSupported, 3 other) times 2^32, and the value
+-- an answer: 01's code (0 Ok, 1 SwdError, 2 NotSupported, 3 or more other) times 2^32, and the value; an ack is a byte: of SwdError's
+-- value the lowest 8 bits count
 abbrev pub answerOf : ℕ → Answer
 answerOf x =
     pickAnswer (eqb (x / 0x100000000) 0) (A.Good (x % 0x100000000))

@@ -132,7 +132,7 @@ pub fn bytes_of(c: Call) -> [u8; 16]
     }
 }
 
-// The answer that a number stands for.
+// The answer that a number stands for. An ack is a byte: of SwdError's value the lowest 8 bits count.
 pub fn answer_of(x: u64) -> Answer
     ensures { λ r. ⌜ r ≡ answerOf x ⌝ }
 {

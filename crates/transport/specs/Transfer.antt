@@ -1,3 +1,4 @@
+-- Copyright 2026 Kenta Ida. SPDX-License-Identifier: Apache-2.0. Ported from arm-debug/src/lib.rs of ciniml/rust-dap.
 -- One transfer (000: transfer, clear_sticky_errors): WAIT, ack 2, repeats it, 65 tries in all; any other error is followed
 -- by one ABORT write of 0x1E, its answer ignored. A call that is no transfer is made once, with no ABORT.
 use Prim.Native.Nat.{ℕ, zero, suc}

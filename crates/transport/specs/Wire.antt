@@ -2,10 +2,12 @@
 -- `ask` is a transport call whose answer decides how the call goes on. `tell` is the ABORT whose answer is ignored.
 -- Every node holds the memory that stands at that moment, so that it is known wherever the budget ends.
 use Prim.Native.Nat.{ℕ}
+use mathlib.Core.Bool.{Bool, true, false}
 use mathlib.Core.List.{List, [], _∷_}
 use Rattle.transport.specs.declared.Call.{Call}
 use Rattle.transport.specs.declared.Answer.{Answer}
 use Rattle.transport.specs.declared.Outcome.{Outcome}
+use Rattle.transport.specs.declared.Outcome.the-variants.{Value, Failed}
 use Rattle.transport.specs.declared.Remembered.{Remembered}
 
 -- what the engine remembers, the words of a run, the caller's buffer
@@ -13,6 +15,9 @@ pub record Memory : Type 0 where
   pub remembered : Remembered
   pub words : List ℕ
   pub buf : List ℕ
+
+abbrev pub memoryOf : Remembered → List ℕ → List ℕ → Memory
+memoryOf r ws b = record { remembered = r; words = ws; buf = b }
 
 pub data Wire : Type 0 where
   done : Memory → Outcome → Wire
@@ -28,6 +33,11 @@ follow (tell m c w) a = w
 pub data Ending : Type 0 where
   ended : Outcome → Ending
   spent : Ending
+
+abbrev pub succeeds : Ending → Bool
+succeeds (ended (Value v)) = true
+succeeds (ended (Failed e)) = false
+succeeds spent = false
 
 pub record Played : Type 0 where
   pub calls : List Call

@@ -70,10 +70,12 @@ pub enum Outcome {
 
 // The bytes of the fixed sequences, first byte first, with zeros up to 16.
 const RESET_HIGH: [u8; 16] = [255, 255, 255, 255, 255, 255, 255, 255, 0, 0, 0, 0, 0, 0, 0, 0];
+const RESET_IDLE: [u8; 16] = [0, 0, 0, 0, 0, 0, 0, 0, 0, 0, 0, 0, 0, 0, 0, 0];
 const JTAG_TO_SWD: [u8; 16] = [0x9E, 0xE7, 0, 0, 0, 0, 0, 0, 0, 0, 0, 0, 0, 0, 0, 0];
 const SWD_TO_DORMANT: [u8; 16] = [0xBC, 0xE3, 0, 0, 0, 0, 0, 0, 0, 0, 0, 0, 0, 0, 0, 0];
 const ALERT_HIGH: [u8; 16] = [255, 0, 0, 0, 0, 0, 0, 0, 0, 0, 0, 0, 0, 0, 0, 0];
 const SELECTION_ALERT: [u8; 16] = [0x92, 0xF3, 0x09, 0x62, 0x95, 0x2D, 0x85, 0x86, 0xE9, 0xAF, 0xDD, 0xE3, 0xA2, 0x0E, 0xBC, 0x19];
+const ALERT_IDLE: [u8; 16] = [0, 0, 0, 0, 0, 0, 0, 0, 0, 0, 0, 0, 0, 0, 0, 0];
 const SWD_ACTIVATION: [u8; 16] = [0x1A, 0, 0, 0, 0, 0, 0, 0, 0, 0, 0, 0, 0, 0, 0, 0];
 
 // The bytes of a fixed sequence.
@@ -82,12 +84,12 @@ pub fn pattern_bytes(p: Pattern) -> [u8; 16]
 {
     match p {
         Pattern::ResetHigh => RESET_HIGH,
-        Pattern::ResetIdle => [0u8; 16],
+        Pattern::ResetIdle => RESET_IDLE,
         Pattern::JtagToSwd => JTAG_TO_SWD,
         Pattern::SwdToDormant => SWD_TO_DORMANT,
         Pattern::AlertHigh => ALERT_HIGH,
         Pattern::SelectionAlert => SELECTION_ALERT,
-        Pattern::AlertIdle => [0u8; 16],
+        Pattern::AlertIdle => ALERT_IDLE,
         Pattern::SwdActivation => SWD_ACTIVATION,
     }
 }

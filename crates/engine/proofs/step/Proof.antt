@@ -1,5 +1,5 @@
--- The call runs over the caller's words or over the row, as its state says; what is not run over is not lent on.
-use mathlib.Core.Path.{refl, _∙_}
+-- The status says whether the call goes on (`go_on`) or has ended (`stay`).
+use Rattle.engine.specs.StepLaws.{moves, stays-ended}
 use borrow.Author.Needs.{needs}
 use Rattle.engine.proofs.step.Statement.{statement}
 use Rattle.engine.proofs.step.Tie as tie
@@ -7,7 +7,7 @@ use Rattle.engine.proofs.step.Tie as tie
 pub step-spec : {M : Type 1} → statement M
 step-spec =
     tie.close (tie.spec
-    (λ c κs. search needs) (λ c. search needs) (λ c. search needs) (λ c. let x = c .before .before .before .before .step-over .ensures in let own = c
-      .before .before .before .before .before .before .before .if1 .taken in simp own (record { steps = x .0; other = refl; whose = x .1
-      ∙ own })) (λ c κs. search needs) (λ c. search needs) (λ c. let x = c .before .before .step-over2 .ensures in let own = c .before .before
-      .before .before .before .if1 .left in simp own (record { steps = x .0; other = refl; whose = x .1 ∙ own })))
+    (λ c. search needs) (λ c κs. search needs) (λ c. search needs) (λ c κs. search needs) (λ c. search needs) (λ c. search needs)
+    (λ c. moves _ _ _ _ _ _ _ _ _ (c .before .before .before .before .before .before .before .before .enum-told .given .1)
+      (c .before .before .before .before .go-on .ensures))
+    (λ c. stays-ended _ _ _ _ _ _ _ (c .before .before .status .given .1) (c .stay .ensures)))

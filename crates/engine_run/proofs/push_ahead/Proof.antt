@@ -3,11 +3,10 @@ use borrow.Author.Needs.{needs}
 use lib.ListN.{getD, length}
 use Prim.Native.Nat.{ℕ, _-_, _≤_}
 use mathlib.Core.List.{List}
-use Rattle.memap.specs.Flight.{memoryOf}
 use Rattle.memap.specs.Words.{push}
 use Rattle.memap.specs.Action.{Then}
 use Rattle.transport.specs.declared.Remembered.{Remembered}
-use Rattle.transport.specs.Wire.{play}
+use Rattle.transport.specs.Wire.{memoryOf, play}
 use Rattle.engine_run.specs.Along.{Goes, rest, along-push}
 use native.Mathlib.Omega.{arith}
 use mathlib.Core.Path.{_≡_, refl, sym, ap, _∙_}

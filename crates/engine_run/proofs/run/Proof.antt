@@ -6,22 +6,24 @@ use borrow.Author.Needs.{needs}
 use Rattle.engine_run.proofs.run.Statement.{statement}
 use Rattle.engine_run.proofs.run.Tie as tie
 
+returns : tie.Need-returns
+returns c =
+    let ran = c .before .before .before .before .before .before in let test = ran .before .before .before .before in
+    let own = test .before in let started = own .before in
+    simp (sym (own .owns .ensures) ∙ test .if1 .taken) (rw (started .call-start .ensures)
+      (own-ran _ _ _ _ _ _ _ _ _ (sym (test .if1 .taken) ∙ own .owns .ensures) (ran .run-on .ensures)))
+
+returns-2 : tie.Need-returns-2
+returns-2 c =
+    let ran = c .before .before .before .before .before .before .before in let rowed = ran .before .before .before .before in
+    let framed = rowed .before .before in let test = framed .before in let own = test .before in let started = own .before in
+    let frame = framed .frame-for .ensures in
+    simp (sym (own .owns .ensures) ∙ test .if1 .left) (rw (started .call-start .ensures) (rw (sym frame) (rw (sym (rowed .row-for .ensures))
+      (row-ran _ _ _ _ _ _ _ _ _ _ _ (sym (test .if1 .left) ∙ own .owns .ensures) frame (ran .run-on2 .ensures) (c .frame-left .ensures)))))
+
 pub run-spec : {M : Type 1} → statement M
 run-spec =
     tie.close (tie.spec
-    (λ c κs. search needs) (λ c κs. search needs) (λ c κs. search needs) (λ c. search needs) (λ c. search needs) (λ c. search needs)
-    (λ c. let own = c .before .before .before .before .before .before .before .before .before .before .before .owns .ensures in let test = c .before
-      .before .before .before .before .before .before .before .before .before .if1 .taken in simp (sym own
-      ∙ test) (rw (c .before .before .before .before .before .before .before .before .before .before .before .before .call-start .ensures)
-      (own-ran _ _ _ _ _ _ _ _ (sym test ∙ own) (c .before .before .before .before .before .before .run-on .ensures))))
-    (λ c κs. search needs) (λ c κs. search needs) (λ c. search needs) (λ c κs. search needs) (λ c. search needs) (λ c κs. search needs)
-    (λ c. search needs) (λ c. search needs) (λ c. search needs)
-    (λ c. let own = c .before .before .before .before .before .before .before .before .before .before .before .before .before .before .before .before
-      .before .before .owns .ensures in let test = c .before .before .before .before .before .before .before .before .before .before .before .before
-      .before .before .before .before .before .if1 .left in let frame = c .before .before .before .before .before .before .before .before .before
-      .before .before .before .before .before .before .before .frame-for .ensures in simp (sym own
-      ∙ test) (rw (c .before .before .before .before .before .before .before .before .before .before .before .before .before .before .before .before
-      .before .before .before .call-start .ensures) (rw (sym frame) (rw (sym (c .before .before .before .before .before .before .before .before
-      .before .before .before .before .before .before .row-for .ensures)) (row-ran _ _ _ _ _ _ _ _ _ _ (sym test
-      ∙ own) frame (c .before .before .before .before .before .before .before .before .before .before .run-on2 .ensures)
-      (c .before .before .keep-frame .ensures)))))))
+    (λ c κs. search needs) (λ c κs. search needs) (λ c κs. search needs) (λ c. search needs) (λ c. search needs) (λ c. search needs) returns
+    (λ c κs. search needs) (λ c κs. search needs) (λ c. search needs) (λ c κs. search needs) (λ c κs. search needs) (λ c. search needs)
+    (λ c. search needs) returns-2)

@@ -3,8 +3,7 @@
 use borrow.Author.Needs.{needs}
 use Prim.Native.Nat.{_-_}
 use lib.ListN.{length}
-use Rattle.memap.specs.Flight.{memoryOf}
-use Rattle.transport.specs.Wire.{play}
+use Rattle.transport.specs.Wire.{memoryOf, play}
 use Rattle.jobs.specs.Job.{exec}
 use Rattle.calls.specs.After.{asksJob}
 use Rattle.engine_run.specs.Run.{within}

@@ -3,12 +3,12 @@
 use borrow.Author.Needs.{needs}
 use Rattle.engine_run.specs.Along.{along-same, Goes, rest}
 use Rattle.engine_run.specs.Runs.{over-progress, op-goes, op-stops}
-use Rattle.memap.specs.Flight.{startedTree, memoryOf}
+use Rattle.memap.specs.Flight.{startedTree}
 use Prim.Native.Nat.{ℕ, _-_, _≤_}
 use lib.ListN.{length}
 use mathlib.Core.List.{List}
 use Rattle.memap.specs.Action.{Then}
-use Rattle.transport.specs.Wire.{play}
+use Rattle.transport.specs.Wire.{memoryOf, play}
 use native.Mathlib.Omega.{arith}
 use mathlib.Core.Path.{_≡_, refl, _∙_}
 use Rattle.engine_run.proofs.run_op.Statement.{statement}
