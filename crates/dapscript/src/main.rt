@@ -1,6 +1,3 @@
-// Copyright 2026 Kenta Ida
-// SPDX-License-Identifier: Apache-2.0
-
 // Reads a script from standard input and writes its listing to standard output.
 ghost use mathlib.Core.Path.{_≡_};
 ghost use lib.ListN.{length};
@@ -14,10 +11,10 @@ fn input_room() -> [u8; 65537]
 }
 
 // No listing is longer.
-fn output_room() -> [u8; 1048576]
-    ensures { λ r. ⌜ 1048576 ≡ length r ⌝ }
+fn output_room() -> [u8; 1114112]
+    ensures { λ r. ⌜ 1114112 ≡ length r ⌝ }
 {
-    [0; 1048576]
+    [0; 1114112]
 }
 
 fn main() {

@@ -19,9 +19,9 @@ unfoldable pub digits : ℕ → ℕ → List ℕ
 digits zero n = []
 digits (suc k) n = cond (ltb n 10) (digit n ∷ []) (digits k (n / 10) ++ (digit (n % 10) ∷ []))
 
--- no number of a listing has more than five: calls are at most as many as a script's 9,361 answers
+-- ten are enough for a number of 32 bits, as all numbers of a listing are
 abbrev pub decimal : ℕ → List ℕ
-decimal n = digits 5 n
+decimal n = digits 10 n
 
 -- the last k hexadecimal digits of n, zeros in front too
 unfoldable pub hex : ℕ → ℕ → List ℕ

@@ -1,6 +1,3 @@
-// Copyright 2026 Kenta Ida
-// SPDX-License-Identifier: Apache-2.0
-
 // The lines that a script prints. A function that takes a place `at` puts its text into `out` from there on and answers the
 // place behind it; what falls outside `out` is dropped.
 ghost use mathlib.Core.Path.{_≡_};
@@ -61,9 +58,9 @@ fn put_digits(out: &mut [u8], at: usize, k: u32, n: u32) -> usize
 
 fn put_decimal(out: &mut [u8], at: usize, n: u32) -> usize
     requires { ⌜ at ≤ 2 ^ 61 ⌝ }
-    ensures { λ r. ⌜ Puts (now (out .entry)) at (decimal n) (now (out .exit)) r × (r ≤ at + 5) ⌝ }
+    ensures { λ r. ⌜ Puts (now (out .entry)) at (decimal n) (now (out .exit)) r × (r ≤ at + 10) ⌝ }
 {
-    put_digits(out, at, 5, n)
+    put_digits(out, at, 10, n)
 }
 
 // The last k hexadecimal digits of n.
@@ -141,7 +138,7 @@ fn put_pins(out: &mut [u8], at: usize, output: u8, select: u8, wait: u32) -> usi
 // A letter, a number of bits and the bytes handed over.
 fn put_bits(out: &mut [u8], at: usize, letter: u8, bits: u8, bytes: &[u8]) -> usize
     requires { ⌜ at + 2 * length (now bytes) ≤ 2 ^ 60 ⌝ }
-    ensures { λ r. ⌜ Puts (now (out .entry)) at (bitsText letter bits (now (bytes .entry))) (now (out .exit)) r × (r ≤ at + 8 + 2 * length (now (bytes .entry))) ⌝ }
+    ensures { λ r. ⌜ Puts (now (out .entry)) at (bitsText letter bits (now (bytes .entry))) (now (out .exit)) r × (r ≤ at + 13 + 2 * length (now (bytes .entry))) ⌝ }
 {
     let p = put(out, at, letter);
     let p2 = put(out, p, b' ');
@@ -153,7 +150,7 @@ fn put_bits(out: &mut [u8], at: usize, letter: u8, bits: u8, bytes: &[u8]) -> us
 // A call that hands bytes over.
 fn put_handed(out: &mut [u8], at: usize, c: Call) -> usize
     requires { ⌜ at ≤ 2 ^ 59 ⌝ }
-    ensures { λ r. ⌜ Puts (now (out .entry)) at (bitsText (numbersOf c .kind) (numbersOf c .bits) (handed c)) (now (out .exit)) r × (r ≤ at + 40) ⌝ }
+    ensures { λ r. ⌜ Puts (now (out .entry)) at (bitsText (numbersOf c .kind) (numbersOf c .bits) (handed c)) (now (out .exit)) r × (r ≤ at + 45) ⌝ }
 {
     let n = numbers::numbers_of(c);
     let bytes = numbers::bytes_of(c);
@@ -163,7 +160,7 @@ fn put_handed(out: &mut [u8], at: usize, c: Call) -> usize
 
 fn put_call(out: &mut [u8], at: usize, c: Call) -> usize
     requires { ⌜ at ≤ 2 ^ 59 ⌝ }
-    ensures { λ r. ⌜ Puts (now (out .entry)) at (callText c) (now (out .exit)) r × (r ≤ at + 40) ⌝ }
+    ensures { λ r. ⌜ Puts (now (out .entry)) at (callText c) (now (out .exit)) r × (r ≤ at + 45) ⌝ }
 {
     match c {
         Call::Transfer { request, word } => put_transfer(out, at, request, word),
@@ -188,7 +185,7 @@ fn put_call(out: &mut [u8], at: usize, c: Call) -> usize
 
 fn put_line(out: &mut [u8], at: usize, number: u32, c: Call) -> usize
     requires { ⌜ at ≤ 2 ^ 58 ⌝ }
-    ensures { λ r. ⌜ Puts (now (out .entry)) at (callLine number c) (now (out .exit)) r × (r ≤ at + 47) ⌝ }
+    ensures { λ r. ⌜ Puts (now (out .entry)) at (callLine number c) (now (out .exit)) r × (r ≤ at + 57) ⌝ }
 {
     let p = put_decimal(out, at, number);
     let p2 = put(out, p, b' ');
@@ -199,7 +196,7 @@ fn put_line(out: &mut [u8], at: usize, number: u32, c: Call) -> usize
 // A line for each transport call of a log.
 fn put_calls(out: &mut [u8], log: &[u64]) -> usize
     requires { ⌜ length (now log) < 2 ^ 32 ⌝ }
-    ensures { λ r. ⌜ Puts (now (out .entry)) 0 (callLines 1 (map callOf (now (log .entry)))) (now (out .exit)) r × (r ≤ 47 * length (now (log .entry))) ⌝ }
+    ensures { λ r. ⌜ Puts (now (out .entry)) 0 (callLines 1 (map callOf (now (log .entry)))) (now (out .exit)) r × (r ≤ 57 * length (now (log .entry))) ⌝ }
 {
     let mut p = 0;
     let mut i = 0;
@@ -213,7 +210,7 @@ fn put_calls(out: &mut [u8], log: &[u64]) -> usize
 // The line of the result.
 fn put_result(out: &mut [u8], at: usize, e: CallEnding) -> usize
     requires { ⌜ at ≤ 2 ^ 60 ⌝ }
-    ensures { λ r. ⌜ Puts (now (out .entry)) at (resultLine e) (now (out .exit)) r × (r ≤ at + 15) ⌝ }
+    ensures { λ r. ⌜ Puts (now (out .entry)) at (resultLine e) (now (out .exit)) r × (r ≤ at + 20) ⌝ }
 {
     let p = put_decimal(out, at, e.number as u32);
     let p2 = put_field(out, p, 8, e.value);
@@ -264,7 +261,7 @@ fn put_shown(out: &mut [u8], at: usize, s: Shown, words: &[u32], buf: &[u8]) -> 
 
 // The listing of a call that made no transport call.
 pub fn put_ending(out: &mut [u8], e: CallEnding) -> usize
-    ensures { λ r. ⌜ Puts (now (out .entry)) 0 (resultLine e) (now (out .exit)) r × (r ≤ 15) ⌝ }
+    ensures { λ r. ⌜ Puts (now (out .entry)) 0 (resultLine e) (now (out .exit)) r × (r ≤ 20) ⌝ }
 {
     put_result(out, 0, e)
 }
@@ -279,7 +276,7 @@ pub fn put_run(
     buf: &[u8],
 ) -> usize
     ensures { λ r. ⌜ Puts (now (out .entry)) 0 (listed (now (log .entry)) e s (now (words .entry)) (now (buf .entry))) (now (out .exit)) r
-        × (r ≤ 47 * length (now (log .entry)) + 18 + max (8 * length (now (words .entry))) (2 * length (now (buf .entry)))) ⌝ }
+        × (r ≤ 57 * length (now (log .entry)) + 23 + max (8 * length (now (words .entry))) (2 * length (now (buf .entry)))) ⌝ }
 {
     if 0xFFFFFFFF < log.len() + words.len() + buf.len() {
         return 0;

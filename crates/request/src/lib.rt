@@ -1,6 +1,3 @@
-// Copyright 2026 Kenta Ida
-// SPDX-License-Identifier: Apache-2.0
-
 // The request of a script: from the number of a call and the bytes behind it to the call and what it is lent.
 ghost use mathlib.Core.Path.{_≡_};
 ghost use lib.ListN.{length};

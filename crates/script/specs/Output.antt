@@ -1,7 +1,7 @@
 -- What a script prints (01: The script): `outputOf` is the whole output of any input.
 use Prim.Native.Nat.{ℕ}
 use lib.Dec.{eqb}
-use mathlib.Core.Bool.{cond}
+use mathlib.Core.Bool.{Bool, true, false, cond}
 use mathlib.Core.List.{List, _++_}
 use lib.ListN.{length}
 use Rattle.transport.specs.Wire.{Played, play}
@@ -9,7 +9,7 @@ use Rattle.numbers.specs.Results.{endingOf}
 use Rattle.numbers.specs.declared.CallEnding.{CallEnding}
 use Rattle.jobs.specs.Change.{fresh}
 use Rattle.calls.specs.declared.EngineCall.{EngineCall}
-use Rattle.calls.specs.Calls.{callTree, rowFor, wordsLeft}
+use Rattle.calls.specs.Calls.{pick, callTree, rowFor, frameOf, wordsLeft, frameLeft}
 use Rattle.engine_run.specs.Run.{within}
 use Rattle.listing.specs.declared.Shown.{Shown}
 use Rattle.listing.specs.declared.Shown.the-variants as S
@@ -35,15 +35,28 @@ shownOf e (B.GivenWords size) = S.Nothing
 shownOf e B.GivenBytes = S.Nothing
 shownOf e B.Frame = cond (eqb (e .number) 0) S.Words S.Nothing
 
+abbrev pub isFrame : Buffer → Bool
+isFrame B.Nothing = false
+isFrame (B.Words n) = false
+isFrame (B.Bytes n) = false
+isFrame (B.GivenWords size) = false
+isFrame B.GivenBytes = false
+isFrame B.Frame = true
+
+-- the words shown: the frame, or the words that the call was lent, as the run p of the call c leaves them
+abbrev pub wordsShown : EngineCall → Buffer → List ℕ → Played → List ℕ
+wordsShown c b words p =
+    pick (isFrame b) (frameLeft c (p .ending) (p .memory .words) (frameOf words)) (wordsLeft c (p .memory .words) words)
+
 -- the run p of a call that was lent these words
 abbrev pub runText : EngineCall → Buffer → List ℕ → Played → List ℕ
 runText c b words p =
     let e = endingOf (p .ending) in
-    callLines 1 (p .calls) ++ (resultLine e ++ shownText (shownOf e b) (wordsLeft c (p .memory .words) words) (p .memory .buf))
+    callLines 1 (p .calls) ++ (resultLine e ++ shownText (shownOf e b) (wordsShown c b words p) (p .memory .buf))
 
--- a call on a new engine; the number of answers is the budget
+-- a call on a new engine; the number of answers is the budget. Call 24's frame is the words that it is given.
 unfoldable pub performed : EngineCall → Buffer → List ℕ → List ℕ → List ℕ → List ℕ
-performed c b words buf xs = runText c b words (play (callTree c fresh (rowFor c words) words buf) (within (length xs) xs))
+performed c b words buf xs = runText c b words (play (callTree c fresh (rowFor c (frameOf words)) words buf) (within (length xs) xs))
 
 unfoldable pub requestText : Request → List ℕ → List ℕ
 requestText Malformed xs = malformedText

@@ -1,28 +1,34 @@
 -- The listing of a run from what the run reports. Serves the proofs.
 use Prim.Native.Nat.{ℕ, _+_, _-_, _≤_}
+use mathlib.Core.Bool.{Bool, true, false}
 use mathlib.Core.Path.{_≡_, refl, ap, sym, subst, _∙_}
 use mathlib.Core.List.{List, [], _∷_, _++_, map}
 use native.Mathlib.Omega.{arith}
 use lib.ListN.{length, take, drop, length-take, length-map}
 use lib.Seq.{sets, sets-eq, take-at, length-sets}
-use Rattle.transport.specs.Wire.{Wire, done, ask, tell, Played, play}
+use Rattle.transport.specs.Wire.{Wire, done, ask, tell, Played, play, succeeds}
 use Rattle.transport.specs.declared.Answer.{Answer}
+use Rattle.transport.specs.declared.Remembered.{Remembered}
 use Rattle.transport.specs.declared.Call.{Call}
 use Rattle.numbers.specs.Log.{codeOf, callOf, answerOf}
+use Rattle.numbers.specs.declared.CallEnding.{CallEnding}
 use Rattle.jobs.specs.Change.{fresh}
 use Rattle.calls.specs.declared.EngineCall.{EngineCall}
 use Rattle.engine_run.specs.declared.Ran.{Ran}
-use Rattle.calls.specs.Calls.{callTree, rowFor}
+use Rattle.calls.specs.Calls.{pick, callTree, rowFor, frameOf, frameFor, leave}
+use Rattle.calls.specs.declared.Frame.{Frame}
+use Rattle.calls.specs.declared.Frame.the-variants as F
 use Rattle.engine_run.specs.Run.{within, RanAs}
-use Rattle.listing.specs.Listing.{listed}
+use Rattle.listing.specs.Listing.{runLines, listed}
 use Rattle.listing.specs.TextLaws.{listed-all}
+use Rattle.listing.specs.declared.Shown.{Shown}
 use Rattle.request.specs.declared.Buffer.{Buffer}
 use Rattle.request.specs.declared.Request.{Request}
 use Rattle.request.specs.declared.Request.the-variants.{Asked}
 use Rattle.request.specs.BigEndian.{byte, half, row}
 use Rattle.request.specs.Request.{requestOf, wordsOf, bytesOf}
 use Rattle.script.specs.Script.{callEnd, arguments, answerCount, answerAt}
-use Rattle.script.specs.Output.{shownOf, performed, requestText}
+use Rattle.script.specs.Output.{shownOf, isFrame, performed, requestText}
 
 -- a run makes at most as many calls as there are answers
 play-most : (w : Wire) (answers : List Answer) → length (play w answers .calls) ≤ length answers
@@ -37,11 +43,27 @@ play-most (tell m c w) (a ∷ rest) = omega (arith, play-most w rest)
 front : (l t : List ℕ) → length t ≤ length l → take (length t) (sets l 0 t) ≡ t
 front l t h = ap (λ (x : List ℕ). take (length t) x) (sets-eq t l 0 (omega arith)) ∙ take-at t _ (length t) refl
 
-module _ (c : EngineCall) (b : Buffer) (words₀ buf₀ answers : List ℕ) {r : Ran} {words buf l₀ l : List ℕ}
-    (h : RanAs c (play (callTree c fresh (rowFor c words₀) words₀ buf₀) (within (length answers) answers)) r words₀ words buf l₀ l)
+frame-eight : (f : Frame) (ok : Bool) (ws words : List ℕ) → length (leave f ok ws (frameOf words)) ≡ 8
+frame-eight F.Nowhere ok ws words = refl
+frame-eight F.Found ok ws words = refl
+frame-eight F.Left true ws words = refl
+frame-eight F.Left false ws words = refl
+
+-- new is what the engine remembers at first, and given the frame that it is lent
+module _ (c : EngineCall) (b : Buffer) (words₀ buf₀ answers : List ℕ) {new : Remembered} {given : List ℕ} (fresh-new : new ≡ fresh)
+    (frame-given : given ≡ frameOf words₀) {r : Ran} {frame words buf l₀ l : List ℕ}
+    (ran : RanAs c (play (callTree c new (rowFor c given) words₀ buf₀) (within (length answers) answers)) r given words₀ frame words buf l₀ l)
     (fits : length answers ≤ length l₀) where
+  h : RanAs c (play (callTree c fresh (rowFor c (frameOf words₀)) words₀ buf₀) (within (length answers) answers)) r (frameOf words₀) words₀ frame
+      words buf l₀ l
+  h =
+      subst (λ (z : Remembered). RanAs c (play (callTree c z (rowFor c (frameOf words₀)) words₀ buf₀) (within (length answers) answers)) r
+          (frameOf words₀) words₀ frame words buf l₀ l) fresh-new
+      (subst (λ (z : List ℕ). RanAs c (play (callTree c new (rowFor c z) words₀ buf₀) (within (length answers) answers)) r z words₀ frame words buf
+          l₀ l) frame-given ran)
+
   run : Played
-  run = play (callTree c fresh (rowFor c words₀) words₀ buf₀) (within (length answers) answers)
+  run = play (callTree c fresh (rowFor c (frameOf words₀)) words₀ buf₀) (within (length answers) answers)
 
   pub count-most : r .count ≤ length answers
   unfolding run
@@ -49,7 +71,7 @@ module _ (c : EngineCall) (b : Buffer) (words₀ buf₀ answers : List ℕ) {r :
       omega (
         arith,
         h .count,
-        play-most (callTree c fresh (rowFor c words₀) words₀ buf₀) (within (length answers) answers),
+        play-most (callTree c fresh (rowFor c (frameOf words₀)) words₀ buf₀) (within (length answers) answers),
         length-map (take (length answers) answers) answerOf,
         length-take (length answers) answers,
       )
@@ -67,10 +89,23 @@ module _ (c : EngineCall) (b : Buffer) (words₀ buf₀ answers : List ℕ) {r :
         (front l₀ (map codeOf (run .calls)) (omega (arith, count-most))) in
       ap (λ (x : List ℕ). map callOf x) e ∙ h .readable
 
-  pub performed-text : length (take (r .count) l) + length words + length buf ≤ 0xFFFFFFFF
-      → listed (take (r .count) l) (r .ending) (shownOf (r .ending) b) words buf ≡ performed c b words₀ buf₀ answers
+  pub frame-length : length frame ≡ 8
+  unfolding run
+  frame-length = ap length (h .framed) ∙ frame-eight (frameFor c) (succeeds (run .ending)) (run .memory .words) words₀
+
+  pub performed-text : runLines (take (r .count) l) (r .ending) (shownOf (r .ending) b) (pick (isFrame b) frame words) buf
+      ≡ performed c b words₀ buf₀ answers
   unfolding performed run
-  performed-text few = listed-all (take (r .count) l) (r .ending) (shownOf (r .ending) b) words buf few ∙ rw (log-calls, h .ending, h .lent, h .buf)
+  performed-text = rw (log-calls, h .ending, h .framed, h .lent, h .buf)
+
+-- the listing of a run, with the frame or the words that it left
+pub shown-text : (log : List ℕ) (e : CallEnding) (b : Buffer) (s : Shown) (framed : Bool) (frame words ws buf : List ℕ)
+  → s ≡ shownOf e b → framed ≡ isFrame b → ws ≡ pick framed frame words → length log + length ws + length buf ≤ 0xFFFFFFFF
+  → listed log e s ws buf ≡ runLines log e (shownOf e b) (pick (isFrame b) frame words) buf
+shown-text log e b s framed frame words ws buf hs hf hw few =
+    listed-all log e s ws buf few
+    ∙ ap (λ (s : Shown). runLines log e s ws buf) hs
+    ∙ ap (λ (ws : List ℕ). runLines log e (shownOf e b) ws buf) (hw ∙ ap (λ (framed : Bool). pick framed frame words) hf)
 
 -- what a request prints, from the end of its record and the answers as they were loaded
 pub request-text : (c : EngineCall) (b : Buffer) (xs : List ℕ) {end n : ℕ} {loaded : List ℕ} → end ≡ callEnd xs → n ≡ answerCount xs

@@ -1,6 +1,3 @@
-// Copyright 2026 Kenta Ida
-// SPDX-License-Identifier: Apache-2.0
-
 // A script: a call for a new engine and the answers of its transport calls in, the listing of what the call did out.
 ghost use mathlib.Core.Path.{_≡_};
 ghost use mathlib.Core.Bool.{true};
@@ -9,9 +6,11 @@ ghost use lib.ListN.{length, drop};
 ghost use lib.Seq.{sets};
 ghost use Rattle.request.specs.BigEndian.{word as Number·word, row};
 ghost use Rattle.request.specs.Request.{wordsOf, bytesOf};
+ghost use Rattle.calls.specs.Calls.{pick, frameOf};
+ghost use Rattle.listing.specs.Listing.{runLines};
 ghost use Rattle.listing.specs.Puts.{Puts};
 ghost use Rattle.script.specs.Script.{callEnd, answerCount, goodAnswer, goodAnswers, answerAt, wellFormed};
-ghost use Rattle.script.specs.Output.{malformedText, shownOf, performed, requestText, scriptText, outputOf};
+ghost use Rattle.script.specs.Output.{malformedText, shownOf, isFrame, performed, requestText, scriptText, outputOf};
 ghost use Rattle.script.specs.Lending.{zeros, Zeros, wordCount, byteCount};
 ghost use Rattle.script.specs.Sizes.{Sizes};
 use calls::EngineCall;
@@ -22,7 +21,6 @@ use request::Request;
 use request::byte;
 use request::half;
 use request::word;
-use transport::Remembered;
 
 fn good_answer(input: &[u8], i: usize) -> bool
     requires { ⌜ i < 2 ^ 62 ⌝ }
@@ -183,6 +181,46 @@ fn shown_of(e: CallEnding, b: Buffer) -> Shown
     }
 }
 
+// The frame in the first eight words that a call is lent; what is missing is 0.
+fn frame_in(words: &[u32]) -> [u32; 8]
+    ensures { λ r. ⌜ r ≡ frameOf (now (words .entry)) ⌝ }
+{
+    let r0 = memap::word_at(words, 0);
+    let r1 = memap::word_at(words, 1);
+    let r2 = memap::word_at(words, 2);
+    let r3 = memap::word_at(words, 3);
+    let sp = memap::word_at(words, 4);
+    let lr = memap::word_at(words, 5);
+    let pc = memap::word_at(words, 6);
+    let xpsr = memap::word_at(words, 7);
+    [r0, r1, r2, r3, sp, lr, pc, xpsr]
+}
+
+fn is_frame(b: Buffer) -> bool
+    ensures { λ r. ⌜ r ≡ isFrame b ⌝ }
+{
+    match b {
+        Buffer::Nothing => false,
+        Buffer::Words(_) => false,
+        Buffer::Bytes(_) => false,
+        Buffer::GivenWords(_) => false,
+        Buffer::GivenBytes => false,
+        Buffer::Frame => true,
+    }
+}
+
+// The listing of a run, with the frame or the words that it left.
+fn put_performed(out: &mut [u8], log: &[u64], e: CallEnding, b: Buffer, frame: &[u32; 8], words: &[u32], buf: &[u8]) -> usize
+    requires { ⌜ (length (now log) ≤ 9361) × (length (now frame) ≡ 8) × (length (now words) < 65536) × (length (now buf) < 65536) ⌝ }
+    ensures { λ r. ⌜ Puts (now (out .entry)) 0 (runLines (now (log .entry)) e (shownOf e b) (pick (isFrame b) (now (frame .entry)) (now (words .entry))) (now (buf .entry))) (now (out .exit)) r × (r ≤ 1114112) ⌝ }
+{
+    let s = shown_of(e, b);
+    if is_frame(b) {
+        return listing::put_run(out, log, e, s, frame, buf);
+    }
+    listing::put_run(out, log, e, s, words, buf)
+}
+
 // A call on a new engine, and its listing. No script has more than 9,361 answers.
 fn perform(
     c: EngineCall,
@@ -193,22 +231,18 @@ fn perform(
     out: &mut [u8],
 ) -> usize
     requires { ⌜ (length (now answers) ≤ 9361) × (length (now words) < 65536) × (length (now buf) < 65536) ⌝ }
-    ensures { λ r. ⌜ Puts (now (out .entry)) 0 (performed c b (now (words .entry)) (now (buf .entry)) (now (answers .entry))) (now (out .exit)) r × (r ≤ 1048576) ⌝ }
+    ensures { λ r. ⌜ Puts (now (out .entry)) 0 (performed c b (now (words .entry)) (now (buf .entry)) (now (answers .entry))) (now (out .exit)) r × (r ≤ 1114112) ⌝ }
 {
     let mut log = zero_answers();
-    let new = Remembered {
-        select: 0xFFFFFFFF,
-        csw: false,
-        apsel: 0,
-    };
-    let ran = engine_run::run(new, c, answers.len() as u32, answers, words, buf, &mut log);
+    let mut frame = frame_in(words);
+    let ran = engine_run::run(jobs::new(), c, answers.len() as u32, answers, &mut frame, words, buf, &mut log);
     let n = ran.count as usize;
     let e = ran.ending;
-    listing::put_run(out, &log[..n], e, shown_of(e, b), words, buf)
+    put_performed(out, &log[..n], e, b, &frame, words, buf)
 }
 
 fn put_malformed(out: &mut [u8]) -> usize
-    ensures { λ r. ⌜ Puts (now (out .entry)) 0 malformedText (now (out .exit)) r × (r ≤ 15) ⌝ }
+    ensures { λ r. ⌜ Puts (now (out .entry)) 0 malformedText (now (out .exit)) r × (r ≤ 20) ⌝ }
 {
     listing::put_ending(
         out,
@@ -270,7 +304,7 @@ fn lend(
     out: &mut [u8],
 ) -> usize
     requires { ⌜ Zeros b (now a) (now words) (now buf) × (length (now answers) ≤ 9361) × (length (now words) < 65536) × (length (now buf) < 65536) ⌝ }
-    ensures { λ r. ⌜ Puts (now (out .entry)) 0 (performed c b (wordsOf b (now (a .entry))) (bytesOf b (now (a .entry))) (now (answers .entry))) (now (out .exit)) r × (r ≤ 1048576) ⌝ }
+    ensures { λ r. ⌜ Puts (now (out .entry)) 0 (performed c b (wordsOf b (now (a .entry))) (bytesOf b (now (a .entry))) (now (answers .entry))) (now (out .exit)) r × (r ≤ 1114112) ⌝ }
 {
     fill(b, a, words, buf);
     perform(c, b, answers, words, buf, out)
@@ -279,7 +313,7 @@ fn lend(
 // A call with its arguments and answers.
 fn asked(c: EngineCall, b: Buffer, a: &[u8], answers: &[u64], out: &mut [u8]) -> usize
     requires { ⌜ (length (now a) ≤ 65536) × (length (now answers) ≤ 9361) ⌝ }
-    ensures { λ r. ⌜ Puts (now (out .entry)) 0 (performed c b (wordsOf b (now (a .entry))) (bytesOf b (now (a .entry))) (now (answers .entry))) (now (out .exit)) r × (r ≤ 1048576) ⌝ }
+    ensures { λ r. ⌜ Puts (now (out .entry)) 0 (performed c b (wordsOf b (now (a .entry))) (bytesOf b (now (a .entry))) (now (answers .entry))) (now (out .exit)) r × (r ≤ 1114112) ⌝ }
 {
     let mut words = zero_words();
     let mut buf = zero_bytes();
@@ -298,7 +332,7 @@ fn reply(
     out: &mut [u8],
 ) -> usize
     requires { ⌜ Sizes (now input) × (end ≡ callEnd (now input)) × (length (now answers) ≡ answerCount (now input)) ⌝ }
-    ensures { λ r. ⌜ Puts (now (out .entry)) 0 (requestText (Request.Asked c b) (now (input .entry))) (now (out .exit)) r × (r ≤ 1048576) ⌝ }
+    ensures { λ r. ⌜ Puts (now (out .entry)) 0 (requestText (Request.Asked c b) (now (input .entry))) (now (out .exit)) r × (r ≤ 1114112) ⌝ }
 {
     load_answers(input, end, answers);
     asked(c, b, &input[4..end], answers, out)
@@ -306,7 +340,7 @@ fn reply(
 
 fn answered(c: EngineCall, b: Buffer, input: &[u8], end: usize, out: &mut [u8]) -> usize
     requires { ⌜ Sizes (now input) × (end ≡ callEnd (now input)) ⌝ }
-    ensures { λ r. ⌜ Puts (now (out .entry)) 0 (requestText (Request.Asked c b) (now (input .entry))) (now (out .exit)) r × (r ≤ 1048576) ⌝ }
+    ensures { λ r. ⌜ Puts (now (out .entry)) 0 (requestText (Request.Asked c b) (now (input .entry))) (now (out .exit)) r × (r ≤ 1114112) ⌝ }
 {
     let mut answers = zero_answers();
     let n = (input.len() - end) / 7;
@@ -316,7 +350,7 @@ fn answered(c: EngineCall, b: Buffer, input: &[u8], end: usize, out: &mut [u8]) 
 // A well-formed script.
 fn put_script(input: &[u8], out: &mut [u8]) -> usize
     requires { ⌜ Sizes (now input) ⌝ }
-    ensures { λ r. ⌜ Puts (now (out .entry)) 0 (scriptText (now (input .entry))) (now (out .exit)) r × (r ≤ 1048576) ⌝ }
+    ensures { λ r. ⌜ Puts (now (out .entry)) 0 (scriptText (now (input .entry))) (now (out .exit)) r × (r ≤ 1114112) ⌝ }
 {
     let end = 3 + (half(input, 1) as usize);
     let request = request::request_of(byte(input, 3), &input[4..end]);
@@ -328,7 +362,7 @@ fn put_script(input: &[u8], out: &mut [u8]) -> usize
 
 // The whole output of a script, as far as `out` reaches; answers its length.
 pub fn dapscript(input: &[u8], out: &mut [u8]) -> usize
-    ensures { λ r. ⌜ (r ≡ length (outputOf (now (input .entry)))) × (now (out .exit) ≡ sets (now (out .entry)) 0 (outputOf (now (input .entry)))) × (r ≤ 1048576) ⌝ }
+    ensures { λ r. ⌜ (r ≡ length (outputOf (now (input .entry)))) × (now (out .exit) ≡ sets (now (out .entry)) 0 (outputOf (now (input .entry)))) × (r ≤ 1114112) ⌝ }
 {
     if well_formed(input) {
         return put_script(input, out);

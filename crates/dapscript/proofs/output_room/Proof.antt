@@ -6,4 +6,4 @@ use Rattle.dapscript.proofs.output_room.Statement.{statement}
 use Rattle.dapscript.proofs.output_room.Tie as tie
 
 pub output-room-spec : {M : Type 1} → statement M
-output-room-spec = tie.close (tie.spec (λ c. sym (length-replicate {A = ℕ} 1048576 0)))
+output-room-spec = tie.close (tie.spec (λ c. sym (length-replicate {A = ℕ} 1114112 0)))

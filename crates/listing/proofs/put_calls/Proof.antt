@@ -14,7 +14,7 @@ use Rattle.listing.proofs.put_calls.Tie as tie
 
 abbrev Inv-loop : tie.InvT-loop
 Inv-loop out₀ log p₀ i₀ out p i =
-    (i ≤ length log) × (p ≤ 47 * i) × (length out ≡ length out₀)
+    (i ≤ length log) × (p ≤ 57 * i) × (length out ≡ length out₀)
     × Left out₀ 0 (callLines 1 (map callOf log)) out p (callLines (i + 1) (map callOf (drop i log)))
 
 abbrev μ-loop : tie.MeasureT-loop
