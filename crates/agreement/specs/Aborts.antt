@@ -35,16 +35,16 @@ Shaped false (ask m c f) = (a : Answer) → Shaped (isTransfer c && aborts a) (f
 Shaped false (tell m c w) = ⊥
 
 -- a loss on the tree is one on the trace
-pub lost-among : (due : Bool) (w : Wire) (answers : List Answer) → Shaped due w → lostIn w answers ≡ lossAmong due (play w answers .calls) answers
+pub lost-among : (w : Wire) (due : Bool) (answers : List Answer) → Shaped due w → lostIn w answers ≡ lossAmong due (play w answers .calls) answers
 unfolding Shaped lostIn lossAmong play
-lost-among true (done m o) answers h = refl
-lost-among false (done m o) answers h = refl
-lost-among true (ask m c f) answers h = absurd h
-lost-among false (ask m c f) [] h = refl
-lost-among false (ask m c f) (a ∷ rest) h = ap (λ (b : Bool). loss a || b) (lost-among (isTransfer c && aborts a) (f a) rest (h a))
-lost-among true (tell m c w) [] h = refl
-lost-among true (tell m c w) (a ∷ rest) h = lost-among false w rest h
-lost-among false (tell m c w) answers h = absurd h
+lost-among (done m o) true answers h = refl
+lost-among (done m o) false answers h = refl
+lost-among (ask m c f) true answers h = absurd h
+lost-among (ask m c f) false [] h = refl
+lost-among (ask m c f) false (a ∷ rest) h = ap (λ (b : Bool). loss a || b) (lost-among (f a) (isTransfer c && aborts a) rest (h a))
+lost-among (tell m c w) true [] h = refl
+lost-among (tell m c w) true (a ∷ rest) h = lost-among w false rest h
+lost-among (tell m c w) false answers h = absurd h
 
 abbrev pub Goes : Then → Type 0
 Goes k = (m : Memory) (o : Outcome) → Shaped false (k m o)

@@ -6,7 +6,7 @@ use mathlib.Core.Path.{_≡_}
 use lib.Dec.{eqb, leb, ltb}
 use lib.ListN.{length, getD, drop}
 use Rattle.transport.specs.Bytes.{leBytes}
-use Rattle.transport.specs.Wire.{Ending, ended, spent}
+use Rattle.transport.specs.Wire.{Ending, ended, spent, succeeds}
 use Rattle.transport.specs.declared.Call.{Call}
 use Rattle.transport.specs.declared.Call.the-variants as W
 use Rattle.transport.specs.declared.Answer.{Answer}
@@ -22,7 +22,7 @@ use Rattle.target.specs.declared.Byte.{Byte}
 use Rattle.target.specs.declared.Byte.the-variants as B
 use Rattle.target_run.specs.Talk.{Talk, talk, silent}
 use Rattle.session_rules.specs.Admits.{isConnect, refusal}
-use Rattle.session_phase.specs.Phase.{succeeds, loss}
+use Rattle.session_phase.specs.Phase.{loss}
 use Rattle.session_rules.specs.Session.{Standing, closed, Called, called, checked, sessionTree}
 use Rattle.session_rules.specs.declared.SessionCall.{SessionCall}
 use Rattle.session_rules.specs.declared.SessionCall.the-variants as S

@@ -4,8 +4,7 @@ use mathlib.Core.Bool.{Bool, true, false, false≢true}
 use mathlib.Core.List.{List}
 use mathlib.Core.Path.{_≡_, refl}
 use lib.ListN.{length}
-use Rattle.transport.specs.Wire.{Wire, Memory, done, ask, tell, play, Ending, ended, spent}
-use Rattle.memap.specs.Flight.{memoryOf}
+use Rattle.transport.specs.Wire.{Wire, Memory, memoryOf, done, ask, tell, play, Ending, ended, spent}
 use Rattle.target.specs.Line.{line}
 use Rattle.target.specs.WellFormed.{WellFormed}
 use Rattle.target.specs.WellFormedLaws.{well-line}

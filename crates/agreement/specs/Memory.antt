@@ -9,18 +9,16 @@ use lib.Dec.{leb}
 use lib.ListN.{length, getD, replicate, length-replicate}
 use borrow.Author.Tests.{eqb-true, not-true}
 use Rattle.transport.specs.Bytes.{leBytes}
-use Rattle.transport.specs.Wire.{Wire, Memory, play, Ending, ended, spent}
+use Rattle.transport.specs.Wire.{Wire, Memory, memoryOf, play, Ending, ended, spent, succeeds}
 use Rattle.transport.specs.declared.Outcome.the-variants.{Value, Failed}
 use Rattle.transport.specs.declared.ArmError.{ArmError}
 use Rattle.transport.specs.declared.ArmError.the-variants as E
-use Rattle.memap.specs.Flight.{memoryOf}
 use Rattle.memory.specs.Memory.{memFrom, mem, memoryJob}
 use Rattle.jobs.specs.Job.{Job, exec}
 use Rattle.target.specs.declared.Target.{Target}
 use Rattle.target.specs.declared.Byte.the-variants as B
 use Rattle.target.specs.declared.Act.{Act}
 use Rattle.session_rules.specs.Admits.{unless, admitted, aligned, ranged, isConnect, refusal}
-use Rattle.session_phase.specs.Phase.{succeeds}
 use Rattle.session_rules.specs.Session.{sessionTree, lostIn}
 use Rattle.session_rules.specs.declared.SessionCall.{SessionCall}
 use Rattle.session_rules.specs.declared.SessionCall.the-variants as S

@@ -5,7 +5,7 @@ use mathlib.Core.List.{List, [], _∷_}
 use mathlib.Core.Path.{_≡_, refl, sym, ap, _∙_}
 use lib.ListN.{length}
 use native.Mathlib.Omega.{arith}
-use Rattle.transport.specs.Wire.{Wire, Memory, play, Ending, ended, spent}
+use Rattle.transport.specs.Wire.{Wire, Memory, play, Ending, ended, spent, succeeds}
 use Rattle.transport.specs.declared.Answer.{Answer}
 use Rattle.transport.specs.declared.ArmError.{ArmError}
 use Rattle.transport.specs.declared.Outcome.{Outcome}
@@ -17,7 +17,7 @@ use Rattle.jobs.specs.Job.{Job, ends, op, keep, exec, either}
 use Rattle.calls.specs.Calls.{jobOf}
 use Rattle.target.specs.Choice.{pick}
 use Rattle.session_rules.specs.Admits.{engineCall, isConnect, refusal}
-use Rattle.session_phase.specs.Phase.{succeeds, opensAfter}
+use Rattle.session_phase.specs.Phase.{opensAfter}
 use Rattle.session_rules.specs.Session.{Standing, called, checked, sessionTree}
 use Rattle.session_rules.specs.declared.SessionCall.{SessionCall}
 use Rattle.session_rules.specs.declared.SessionCall.the-variants as S
@@ -103,7 +103,7 @@ open-next s c buf answers = go (refusal (s .isOpen) c (length buf)) refl
       → checked k s c buf answers .after .isOpen
       ≡ openNext (s .isOpen) c (checked k s c buf answers .calls) answers (checked k s c buf answers .ending)
     go Pass h =
-        rw (lost-among false (sessionTree s c buf) answers (shaped s c buf))
+        rw (lost-among (sessionTree s c buf) false answers (shaped s c buf))
         (same-rule (lossAmong false (play (sessionTree s c buf) answers .calls) answers) (isConnect c) (s .isOpen) (play
           (sessionTree s c buf) answers .ending)
         (admitted-open (s .isOpen) c (length buf) h))

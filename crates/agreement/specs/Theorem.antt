@@ -44,7 +44,7 @@ pub demand3 : (t : Target) (mem : List ℕ) → WellFormed t mem → (items : Li
   → InStep (first t mem) (history (first t mem) items acts)
 demand3 t mem f items b acts = record {
     opened = last-open (first t mem) items acts;
-    agree = last-kept (first t mem) items acts fresh .agree;
+    agree = λ o. last-kept (first t mem) items acts fresh .agree o;
     memory = each (first t mem) items acts fresh b }
   where
     fresh : Kept (first t mem)

@@ -11,7 +11,7 @@ use Rattle.engine_run.specs.Run.{within, logged}
 use Rattle.calls.specs.declared.EngineCall.{EngineCall}
 
 abbrev pub playedNew : EngineCall → ℕ → List ℕ → List ℕ → Played
-playedNew c budget answers buf = play (callTree c fresh (rowFor c (replicate 1 0)) (replicate 1 0) buf) (within budget answers)
+playedNew c budget answers buf = play (callTree c fresh (rowFor c (replicate 8 0)) (replicate 1 0) buf) (within budget answers)
 
 -- r transport calls were made, and buffer and log are as the call leaves them; buf₀ and log₀ were there before
 abbrev pub Counted : EngineCall → ℕ → List ℕ → List ℕ → List ℕ → ℕ → List ℕ → List ℕ → Type 0

@@ -12,13 +12,13 @@ use connect::ConnectCall;
 use core::{CoreCall, Function};
 use fpb::FpbCall;
 use memory::MemoryCall;
-use transport::Remembered;
 
 fn count(c: EngineCall, budget: u32, answers: &[u64], buf: &mut [u8], log: &mut [u64]) -> u32
     ensures { λ r. ⌜ Counted c budget (now (answers .entry)) (now (buf .entry)) (now (log .entry)) r (now (buf .exit)) (now (log .exit)) ⌝ }
 {
+    let mut frame = [0u32; 8];
     let mut words = [0u32; 1];
-    let r = engine_run::run(Remembered { select: 0xFFFFFFFF, csw: false, apsel: 0 }, c, budget, answers, &mut words, buf, log);
+    let r = engine_run::run(jobs::new(), c, budget, answers, &mut frame, &mut words, buf, log);
     r.count
 }
 

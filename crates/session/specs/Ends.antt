@@ -1,43 +1,34 @@
 -- How the session goes by the answer in numbers, and that it goes as by the tree. Serves the proofs only.
 use Prim.Native.Nat.{ℕ}
-use mathlib.Core.Bool.{Bool, true, false}
+use mathlib.Core.Bool.{Bool, true, false, _||_}
 use mathlib.Core.List.{List}
-use mathlib.Core.Path.{_≡_, refl, ap, subst, _∙_}
+use mathlib.Core.Path.{_≡_, refl, sym, ap, subst, _∙_}
 use lib.Dec.{eqb}
-use Rattle.transport.specs.Wire.{Wire, Memory, done, ask, tell}
+use Rattle.transport.specs.Wire.{Wire, Memory, memoryOf, done, ask, tell, ended}
 use Rattle.transport.specs.Flight.{flight}
 use Rattle.transport.specs.declared.Answer.{Answer}
-use Rattle.transport.specs.declared.ArmError.{ArmError}
-use Rattle.transport.specs.declared.ArmError.the-variants as E
 use Rattle.transport.specs.declared.Outcome.{Outcome}
-use Rattle.transport.specs.declared.Outcome.the-variants.{Value, Failed}
 use Rattle.transport.specs.declared.Mode.{Mode}
 use Rattle.transport.specs.declared.Mode.the-variants as D
 use Rattle.transport.specs.declared.Transfer.{Transfer}
 use Rattle.transport.specs.declared.Remembered.{Remembered}
-use Rattle.memap.specs.Flight.{memoryOf}
-use Rattle.numbers.specs.Results.{errorNumber}
-use Rattle.calls.specs.Calls.{frameOf}
-use Rattle.engine.specs.State.{stateTree}
+use Rattle.numbers.specs.ResultLaws.{number-tells}
+use Rattle.calls.specs.Calls.{leave}
+use Rattle.engine.specs.State.{flightTree, statusTree, stateTree}
 use Rattle.engine.specs.Step.{nextOf, memoryIn}
 use Rattle.engine.specs.declared.State.{State}
+use Rattle.engine.specs.declared.Status.{Status}
+use Rattle.engine.specs.declared.Status.the-variants.{Running}
 use Rattle.engine.specs.declared.NextStep.{NextStep}
 use Rattle.engine.specs.declared.NextStep.the-variants as N
-use Rattle.session_phase.specs.Phase.{loss, phaseEnded}
-use Rattle.session_rules.specs.Session.{frameLeft}
+use Rattle.session_phase.specs.Phase.{lossIn, phaseEnded}
+use Rattle.session_rules.specs.Session.{frameBy}
 use Rattle.session.specs.Step.{phaseIn, frameIn, lostBy, Answers}
 use Rattle.session_phase.specs.declared.Kind.{Kind}
-use Rattle.session_phase.specs.declared.Kind.the-variants as K
 use Rattle.session_phase.specs.declared.Phase.{Phase}
 use Rattle.session_phase.specs.declared.Phase.the-variants as P
 use Rattle.session.specs.declared.Session.{Session}
 use Rattle.session.specs.declared.Reply.{Reply}
-
-abbrev pub frameEnded : Kind → Bool → List ℕ → List ℕ → List ℕ
-frameEnded K.Connect ok row frame = frame
-frameEnded K.Frame true row frame = frameOf row
-frameEnded K.Frame false row frame = frame
-frameEnded K.Plain ok row frame = frame
 
 -- number 0 is success
 abbrev pub phaseFor : Kind → Bool → NextStep → Phase
@@ -46,41 +37,15 @@ phaseFor kind lost (N.Finish e) = phaseEnded kind lost (eqb (e .number) 0)
 
 abbrev pub frameAt : Kind → NextStep → List ℕ → List ℕ → List ℕ
 frameAt kind (N.Make c) row frame = frame
-frameAt kind (N.Finish e) row frame = frameEnded kind (eqb (e .number) 0) row frame
-
-failed-number : (e : ArmError) → eqb (errorNumber e) 0 ≡ false
-failed-number (E.Transfer ack) = refl
-failed-number E.Wait = refl
-failed-number E.NotSupported = refl
-failed-number E.PowerUpTimeout = refl
-failed-number E.CoreTimeout = refl
-failed-number E.NoTarget = refl
-failed-number E.Internal = refl
-failed-number E.Range = refl
-failed-number E.Align = refl
-failed-number E.NoSession = refl
-failed-number E.TableEnd = refl
+frameAt kind (N.Finish e) row frame = leave (frameBy kind) (eqb (e .number) 0) row frame
 
 phase-next : (kind : Kind) (lost : Bool) (w : Wire) → phaseFor kind lost (nextOf w) ≡ phaseIn kind lost w
-phase-next kind lost (done m (Value v)) = refl
-phase-next kind lost (done m (Failed e)) = ap (phaseEnded kind lost) (failed-number e)
+phase-next kind lost (done m o) = ap (phaseEnded kind lost) (number-tells (ended o))
 phase-next kind lost (ask m c f) = refl
 phase-next kind lost (tell m c w) = refl
 
-frame-value : (kind : Kind) (v : ℕ) (row frame : List ℕ) → frameEnded kind true row frame ≡ frameLeft kind (Value v) row frame
-frame-value K.Connect v row frame = refl
-frame-value K.Frame v row frame = refl
-frame-value K.Plain v row frame = refl
-
-frame-failed : (kind : Kind) (e : ArmError) (row frame : List ℕ) → frameEnded kind false row frame ≡ frameLeft kind (Failed e) row frame
-frame-failed K.Connect e row frame = refl
-frame-failed K.Frame e row frame = refl
-frame-failed K.Plain e row frame = refl
-
 frame-next : (kind : Kind) (w : Wire) (frame : List ℕ) → frameAt kind (nextOf w) (memoryIn w .words) frame ≡ frameIn kind w frame
-frame-next kind (done m (Value v)) frame = frame-value kind v (m .words) frame
-frame-next kind (done m (Failed e)) frame =
-    ap (λ (ok : Bool). frameEnded kind ok (m .words) frame) (failed-number e) ∙ frame-failed kind e (m .words) frame
+frame-next kind (done m o) frame = ap (λ (ok : Bool). leave (frameBy kind) ok (m .words) frame) (number-tells (ended o))
 frame-next kind (ask m c f) frame = refl
 frame-next kind (tell m c w) frame = refl
 
@@ -93,18 +58,21 @@ frame-at kind w n r row buf frame h k =
     ap (λ (x : NextStep). frameAt kind x row frame) h ∙ ap (λ (m : Memory). frameAt kind (nextOf w) (m .words) frame) k ∙ frame-next kind w frame
 
 -- an answer is that of an ignored ABORT only while a transfer is aborting
-abbrev pub lossIn : Mode → Answer → Bool
-lossIn D.Trying a = loss a
-lossIn D.Aborting a = false
-lossIn D.Raw a = loss a
-
 lost-flight : (d : Mode) (m : Memory) (t : Transfer) (k : Outcome → Wire) (a : Answer) → lossIn d a ≡ lostBy (flight d m t k) a
 lost-flight D.Trying m t k a = refl
 lost-flight D.Aborting m t k a = refl
 lost-flight D.Raw m t k a = refl
 
-pub lost-in : (s : State) (ws b : List ℕ) (a : Answer) → lossIn (s .started .launched .transfer .mode) a ≡ lostBy (stateTree s ws b) a
-lost-in s ws b a = lost-flight (s .started .launched .transfer .mode) _ (s .started .launched .transfer) _ a
+pub lost-in : (lost : Bool) (s : State) (ws b : List ℕ) (a : Answer) → s .status ≡ Running
+  → (lost || lossIn (s .started .launched .transfer .mode) a) ≡ (lost || lostBy (stateTree s ws b) a)
+lost-in lost s ws b a h =
+    ap (λ (l : Bool). lost || l) (lost-flight (s .started .launched .transfer .mode) _ (s .started .launched .transfer) _ a
+    ∙ ap (λ (d : Status). lostBy (statusTree d (flightTree s ws b) (memoryOf (s .remembered) ws b)) a) (sym h))
+
+-- an ended call loses nothing more
+pub none-lost : (lost : Bool) → lost ≡ (lost || false)
+none-lost true = refl
+none-lost false = refl
 
 pub answers-as : (kind kind₂ : Kind) (lost lost₂ : Bool) (before : List ℕ) (w : Wire) (s : Session) (r : Reply) (buf : List ℕ)
   → kind ≡ kind₂ → lost ≡ lost₂ → Answers kind lost before w s r buf → Answers kind₂ lost₂ before w s r buf

@@ -1,15 +1,16 @@
 -- How a call starts: over a row of the session's own, and by the check that the code made. Serves the proofs only.
 use Prim.Native.Nat.{ℕ}
-use mathlib.Core.Bool.{Bool}
+use mathlib.Core.Bool.{Bool, false}
 use mathlib.Core.List.{List, []}
 use mathlib.Core.Path.{_≡_, refl, sym, ap, subst, _∙_}
 use lib.ListN.{length}
-use Rattle.transport.specs.Wire.{Wire}
+use Rattle.transport.specs.Wire.{Wire, follow}
+use Rattle.transport.specs.declared.Answer.{Answer}
 use Rattle.transport.specs.declared.Remembered.{Remembered}
-use Rattle.memap.specs.Flight.{memoryOf}
-use Rattle.jobs.specs.Job.{exec}
-use Rattle.calls.specs.Calls.{jobOf, callTree, rowFor}
-use Rattle.engine.specs.Step.{Steps}
+use Rattle.calls.specs.Calls.{lent, pick, callTree, rowFor}
+use Rattle.engine.specs.State.{stateTree}
+use Rattle.engine.specs.Step.{Steps, Lent, Stepped}
+use Rattle.engine.specs.declared.State.{State}
 use Rattle.calls.specs.declared.EngineCall.{EngineCall}
 use Rattle.engine.specs.declared.StepAnswer.{StepAnswer}
 use Rattle.session_rules.specs.Admits.{engineCall, isConnect, refusal}
@@ -22,28 +23,35 @@ use Rattle.session.specs.declared.Session.{Session}
 use Rattle.session.specs.declared.Reply.{Reply}
 
 -- no call of the session runs over the caller's words
-over-row : (c : SessionCall) (r : Remembered) (row buf : List ℕ)
-  → exec (jobOf (engineCall c) 0 (length buf)) (memoryOf r row buf) ≡ callTree (engineCall c) r row [] buf
-over-row S.ConnectSwd r row buf = refl
-over-row (S.ReadWord addr) r row buf = refl
-over-row (S.WriteWord addr word) r row buf = refl
-over-row (S.ReadMem addr) r row buf = refl
-over-row (S.WriteMem addr) r row buf = refl
-over-row (S.Core c) r row buf = refl
-over-row (S.Fpb c) r row buf = refl
+over-row : (c : SessionCall) → lent (engineCall c) ≡ false
+over-row S.ConnectSwd = refl
+over-row (S.ReadWord addr) = refl
+over-row (S.WriteWord addr word) = refl
+over-row (S.ReadMem addr) = refl
+over-row (S.WriteMem addr) = refl
+over-row (S.Core c) = refl
+over-row (S.Fpb c) = refl
 
 -- what the code computes for a start is what the tree of the call begins from
-pub starts : (c : SessionCall) (e : EngineCall) (connect : Bool) (r₀ r : Remembered) (frame row₀ buf₀ : List ℕ) (x : StepAnswer) (row buf : List ℕ)
+pub starts : (c : SessionCall) (e : EngineCall) (connect : Bool) (r₀ r : Remembered) (frame row₀ none₀ buf₀ : List ℕ) (x : StepAnswer)
+    (row none buf : List ℕ)
   → e ≡ engineCall c → connect ≡ isConnect c → r ≡ rememberedFor connect r₀ → row₀ ≡ rowFor e frame
-  → Steps (exec (jobOf e 0 (length buf₀)) (memoryOf r row₀ buf₀)) x row buf
+  → Lent (lent e) (callTree e r row₀ [] buf₀) x row₀ none₀ row none buf
   → Steps (callTree (engineCall c) (rememberedFor (isConnect c) r₀) (rowFor (engineCall c) frame) [] buf₀) x row buf
-starts c e connect r₀ r frame row₀ buf₀ x row buf he hc hr hw h =
+starts c e connect r₀ r frame row₀ none₀ buf₀ x row none buf he hc hr hw h =
     subst (λ (w : Wire). Steps w x row buf)
-    (ap (λ (y : EngineCall). exec (jobOf y 0 (length buf₀)) (memoryOf r row₀ buf₀)) he
-    ∙ ap (λ (y : Remembered). exec (jobOf (engineCall c) 0 (length buf₀)) (memoryOf y row₀ buf₀)) (hr ∙ ap (λ (b : Bool). rememberedFor b r₀) hc)
-    ∙ ap (λ (y : List ℕ). exec (jobOf (engineCall c) 0 (length buf₀)) (memoryOf (rememberedFor (isConnect c) r₀) y buf₀)) (hw
-      ∙ ap (λ (y : EngineCall). rowFor y frame) he)
-    ∙ over-row c (rememberedFor (isConnect c) r₀) (rowFor (engineCall c) frame) buf₀) h
+    (ap (λ (y : EngineCall). callTree y r row₀ [] buf₀) he
+    ∙ ap (λ (y : Remembered). callTree (engineCall c) y row₀ [] buf₀) (hr ∙ ap (λ (b : Bool). rememberedFor b r₀) hc)
+    ∙ ap (λ (y : List ℕ). callTree (engineCall c) (rememberedFor (isConnect c) r₀) y [] buf₀) (hw ∙ ap (λ (y : EngineCall). rowFor y frame) he))
+    (subst (λ (own : Bool). Steps (callTree e r row₀ [] buf₀) x (pick own none row) buf) (ap lent he ∙ over-row c) (h .steps))
+
+-- a step over the row; r is the state s as one that runs over it
+pub steps-row : (s r : State) (a : Answer) (x : StepAnswer) (row₀ none₀ buf₀ row none buf : List ℕ)
+  → ((ws b : List ℕ) → stateTree r ws b ≡ stateTree s ws b) × (r .own ≡ false) → Stepped r a x row₀ none₀ buf₀ row none buf
+  → Steps (follow (stateTree s row₀ buf₀) a) x row buf
+steps-row s r a x row₀ none₀ buf₀ row none buf h g =
+    subst (λ (w : Wire). Steps (follow w a) x row buf) (h .0 row₀ buf₀)
+    (subst (λ (own : Bool). Steps (follow (stateTree r (pick own none₀ row₀) buf₀) a) x (pick own none row) buf) (h .1) (g .lent .steps))
 
 -- the check that the code made is the one that the definition asks for
 pub started-by : (before : Session) (c : SessionCall) (buf₀ : List ℕ) (s : Session) (r : Reply) (buf : List ℕ) (now : Bool) (k k₂ : Check)

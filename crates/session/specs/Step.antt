@@ -5,20 +5,20 @@ use mathlib.Core.List.{List, []}
 use mathlib.Core.Path.{_≡_}
 use lib.ListN.{length}
 use Rattle.transport.specs.Bytes.{padded}
-use Rattle.transport.specs.Wire.{Wire, Memory, done, ask, tell, follow}
+use Rattle.transport.specs.Wire.{Wire, Memory, memoryOf, done, ask, tell, follow, ended, succeeds}
 use Rattle.transport.specs.declared.Answer.{Answer}
 use Rattle.transport.specs.declared.ArmError.{ArmError}
 use Rattle.transport.specs.declared.ArmError.the-variants as E
 use Rattle.transport.specs.declared.Outcome.the-variants.{Failed}
-use Rattle.memap.specs.Flight.{memoryOf}
 use Rattle.numbers.specs.Results.{resultOf}
+use Rattle.calls.specs.Calls.{leave}
 use Rattle.engine.specs.State.{stateTree}
-use Rattle.engine.specs.Step.{nextOf, bytesOf, memoryIn, Waits}
+use Rattle.engine.specs.Step.{nextOf, bytesOf, memoryIn}
 use Rattle.engine.specs.declared.NextStep.{NextStep}
 use Rattle.engine.specs.declared.NextStep.the-variants as N
 use Rattle.session_rules.specs.Admits.{refusal}
 use Rattle.session_phase.specs.Phase.{loss, isOpen, phaseAfter}
-use Rattle.session_rules.specs.Session.{Standing, sessionTree, kindOf, frameLeft}
+use Rattle.session_rules.specs.Session.{Standing, sessionTree, kindOf, frameBy}
 use Rattle.session_rules.specs.declared.SessionCall.{SessionCall}
 use Rattle.session_rules.specs.declared.Check.{Check}
 use Rattle.session_rules.specs.declared.Check.the-variants.{Pass, Refuse}
@@ -38,7 +38,7 @@ phaseIn kind lost (ask m c f) = P.Running kind lost
 phaseIn kind lost (tell m c w) = P.Running kind lost
 
 abbrev pub frameIn : Kind → Wire → List ℕ → List ℕ
-frameIn kind (done m o) frame = frameLeft kind o (m .words) frame
+frameIn kind (done m o) frame = leave (frameBy kind) (succeeds (ended o)) (m .words) frame
 frameIn kind (ask m c f) frame = frame
 frameIn kind (tell m c w) frame = frame
 
@@ -49,7 +49,7 @@ pub record Answers (kind : Kind) (lost : Bool) (before : List ℕ) (w : Wire) (s
   pub phase : s .phase ≡ phaseIn kind lost w
   pub memory : memoryOf (s .state .remembered) (s .row) buf ≡ memoryIn w
   pub frame : s .frame ≡ frameIn kind w before
-  pub tree : Waits w → w ≡ stateTree (s .state) (s .row) buf
+  pub tree : w ≡ stateTree (s .state) (s .row) buf
 
 -- nothing is changed, and no transport call is due
 pub record Refused (e : ArmError) (before s : Session) (r : Reply) (buf₀ buf : List ℕ) : Type 0 where

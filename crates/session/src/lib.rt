@@ -5,20 +5,20 @@ ghost use mathlib.Core.Path.{_≡_};
 ghost use Prim.Native.Nat.{ℕ};
 ghost use lib.ListN.{replicate};
 ghost use Rattle.transport.specs.Wire.{Wire, follow};
-ghost use Rattle.calls.specs.Calls.{frameOf, rowFor};
+ghost use Rattle.calls.specs.Calls.{leave, rowFor};
 ghost use Rattle.engine.specs.State.{stateTree};
 ghost use Rattle.engine.specs.Step.{Steps};
-ghost use Rattle.session_rules.specs.Session.{closed, kindOf, sessionTree};
+ghost use Rattle.session_rules.specs.Session.{closed, kindOf, frameBy, sessionTree};
 ghost use Rattle.session_phase.specs.declared.Phase.the-variants.{Closed};
 ghost use Rattle.session.specs.Step.{standing, lostBy, Answers, Refused, Started, Stepped};
-ghost use Rattle.session.specs.Ends.{frameEnded, phaseFor, frameAt, lossIn};
-use calls::{At, EngineCall};
+ghost use Rattle.session.specs.Ends.{phaseFor, frameAt};
+use calls::{At, EngineCall, Frame};
 use connect::ConnectAt;
-use engine::{NextStep, State, StepAnswer};
+use engine::{NextStep, State, Status, StepAnswer};
 use memap::Op;
 use session_phase::{Kind, Phase};
 use session_rules::{Check, SessionCall};
-use transport::{Answer, ArmError, Mode, Outcome, Remembered};
+use transport::{Answer, ArmError, Outcome};
 
 // `state` has what is remembered and the call in flight, `row` the words of its runs, `frame` what call 23 left and 24 takes.
 pub struct Session {
@@ -44,50 +44,29 @@ fn row_of(c: EngineCall, frame: [u32; 8]) -> [u32; 64]
     ensures { λ r. ⌜ r ≡ rowFor c frame ⌝ }
 {
     let f = calls::frame_for(c);
-    calls::row_for(f, &frame)
+    calls::row_for(f, frame)
 }
 
-// The frame in a row's first eight words.
-fn frame_of(row: [u32; 64]) -> [u32; 8]
-    ensures { λ r. ⌜ r ≡ frameOf row ⌝ }
+// Whether a transport call was lost by now: `lost` tells of those before, the answer of the one that is due.
+fn lost_by(lost: bool, s: State, a: Answer) -> bool
+    ensures { λ r. ⌜ ((ws b : List ℕ) → r ≡ (lost || lostBy (stateTree s ws b) a)) ⌝ }
 {
-    let mut frame = [0u32; 8];
-    calls::copy_frame(&row, &mut frame);
-    frame
-}
-
-// The answer of an ABORT is ignored: a loss of it is none.
-fn loss_in(mode: Mode, a: Answer) -> bool
-    ensures { λ r. ⌜ r ≡ lossIn mode a ⌝ }
-{
-    match mode {
-        Mode::Trying => session_phase::is_loss(a),
-        Mode::Aborting => false,
-        Mode::Raw => session_phase::is_loss(a),
-    }
-}
-
-// Whether an answer shows that the transport call due was lost.
-fn lost_by(s: State, a: Answer) -> bool
-    ensures { λ r. ⌜ ((ws b : List ℕ) → r ≡ lostBy (stateTree s ws b) a) ⌝ }
-{
+    let status = s.status;
     let t = s.started.launched.transfer;
     let mode = t.mode;
-    loss_in(mode, a)
+    match status {
+        Status::Running => session_phase::has_lost(lost, mode, a),
+        Status::Ended(_) => lost,
+    }
 }
 
 // Call 23 leaves its frame where it succeeds.
 fn frame_ended(kind: Kind, ok: bool, row: [u32; 64], frame: [u32; 8]) -> [u32; 8]
-    ensures { λ r. ⌜ r ≡ frameEnded kind ok row frame ⌝ }
+    ensures { λ r. ⌜ r ≡ leave (frameBy kind) ok row frame ⌝ }
 {
     match kind {
         Kind::Connect => frame,
-        Kind::Frame => {
-            if ok {
-                return frame_of(row);
-            }
-            frame
-        }
+        Kind::Frame => calls::frame_left(Frame::Left, ok, row, frame),
         Kind::Plain => frame,
     }
 }
@@ -143,19 +122,21 @@ fn begun(s: Session, c: SessionCall, buf: &mut [u8]) -> SessionAnswer
     let e = session_rules::engine_call(c);
     let r = session_phase::remembered_for(session_rules::is_connect(c), s.state.remembered);
     let mut row = row_of(e, frame);
-    let x = engine::start_over(r, e, false, 0, &mut row, buf);
+    let mut none = [0u32; 0];
+    let x = engine::start(r, e, &mut row, &mut none, buf);
     let kind = session_rules::kind_of(c);
     settled(kind, false, frame, row, x)
 }
 
-// A loss is remembered until the call's end.
-fn has_lost(lost: bool, s: State, a: Answer) -> bool
-    ensures { λ r. ⌜ ((ws b : List ℕ) → r ≡ (lost || lostBy (stateTree s ws b) a)) ⌝ }
+// A session's call runs over the row.
+fn over_row(s: State) -> State
+    ensures { λ r. ⌜ ((ws b : List ℕ) → stateTree r ws b ≡ stateTree s ws b) × (r .own ≡ false) ⌝ }
 {
-    if lost {
-        return true;
-    }
-    lost_by(s, a)
+    let status = s.status;
+    let at = s.at;
+    let started = s.started;
+    let r = s.remembered;
+    State { remembered: r, status: status, at: at, started: started, own: false }
 }
 
 // One step of the call under way.
@@ -165,8 +146,9 @@ fn moved(s: Session, kind: Kind, lost: bool, a: Answer, buf: &mut [u8]) -> Sessi
     let state = s.state;
     let frame = s.frame;
     let mut row = s.row;
-    let by_now = has_lost(lost, state, a);
-    let x = engine::step_over(state, a, &mut row, buf);
+    let mut none = [0u32; 0];
+    let by_now = lost_by(lost, state, a);
+    let x = engine::step(over_row(state), a, &mut row, &mut none, buf);
     settled(kind, by_now, frame, row, x)
 }
 
@@ -174,9 +156,9 @@ fn moved(s: Session, kind: Kind, lost: bool, a: Answer, buf: &mut [u8]) -> Sessi
 pub fn fresh() -> Session
     ensures { λ r. ⌜ (standing r ≡ closed) × (r .phase ≡ Closed) × (r .row ≡ replicate 64 0) ⌝ }
 {
-    let r = Remembered { select: 0xFFFFFFFF, csw: false, apsel: 0 };
+    let r = engine::new();
     let started = memap::op_start(r, Op::DpRead { addr: 0 });
-    let state = State { remembered: r, at: At::Connect(ConnectAt::Pulse), started: started, own: false };
+    let state = State { remembered: r, status: Status::Ended(Outcome::Value(0)), at: At::Connect(ConnectAt::Pulse), started: started, own: false };
     Session { phase: Phase::Closed, state: state, row: [0u32; 64], frame: [0u32; 8] }
 }
 

@@ -30,8 +30,10 @@ use denote.Steps.{opens, closes, owned, peeks, heard, nothing, only}
 use denote.Struct.Steps.{spelt}
 use denote.Triple.Call.{calls-from}
 use denote.Triple.Statement.{Contract, Triple}
-use denote.Triple.Clauses.{Ended, Clauses, closing, ensured, lasts}
-use denote.Triple.Entry.{onEntry}
+use denote.Triple.Clauses.{Ended, Clauses, Lasts, AtExit, atExit, closing, ensured, lasts}
+use denote.Triple.Entry.{Args, Res, onEntry}
+use denote.Triple.Weaken.{weaken}
+use contract.Lifetimes.{Lfts}
 use denote.Triple.Spec.{Meets, tripleOf}
 use denote.Triple.Walked.{says, Stays, stay-ref, walkOf, AllGo, goes-ref, Walks, ends-at, walked, walk-meets}
 use Rattle.session_lent.proofs.ThinLaw.{Fits, Data, row, Ruled}
@@ -166,7 +168,16 @@ module _ (t n : Data) (σ : Ty) (g : Name) where
     goes = (goes-ref 𝓤 H A W 1 0 tt (plain (λ _. row t)), tt)
 
     -- the law
-    pub meets : (𝓣 : Tables 𝓤 H) → Triple 𝓤 (𝓣 .C g) Step → Meets 𝓤 H A (ended .signature) (WpFn 𝓤 H (𝓣 .C) (𝓣 .Λ) (looks (t .mir) σ (n .mir) g))
+    meets : (𝓣 : Tables 𝓤 H) → Triple 𝓤 (𝓣 .C g) Step → Meets 𝓤 H A (ended .signature) (WpFn 𝓤 H (𝓣 .C) (𝓣 .Λ) (looks (t .mir) σ (n .mir) g))
         (closing 𝓤 H A ended clauses)
     meets 𝓣 known = walk-meets 𝓤 H A ended stayed W goes clauses (WpFn 𝓤 H (𝓣 .C) (𝓣 .Λ) (looks (t .mir) σ (n .mir) g)) (WpFn-mono 𝓤 H (W .laws) 𝓣
         (looks (t .mir) σ (n .mir) g)) (walks (𝓣 .C) (𝓣 .Λ) (fmOf 𝓤 H (W .laws) 𝓣) known)
+
+    -- and for every contract whose `ensures` follows from what g ensures
+    pub meets-so : (E : (κs : Lfts 1) (a : Args (ended .signature) κs) → Unit {0} → Res (ended .signature) κs → AtExit ended κs → SProp 𝓤)
+      → ((κs : Lfts 1) (a : Args (ended .signature) κs) (g : Unit {0}) (r : Res (ended .signature) κs) (ws : Lasts ended κs a)
+        → ent 𝓤 (clauses κs a .ensures g r (atExit ended κs a ws)) (E κs a g r (atExit ended κs a ws)))
+      → (𝓣 : Tables 𝓤 H) → Triple 𝓤 (𝓣 .C g) Step → Meets 𝓤 H A (ended .signature) (WpFn 𝓤 H (𝓣 .C) (𝓣 .Λ) (looks (t .mir) σ (n .mir) g))
+        (closing 𝓤 H A ended (λ κs a. record { ghost = Unit {0}; requires = clauses κs a .requires; ensures = E κs a }))
+    meets-so E so 𝓣 known = weaken 𝓤 H A ended W clauses E so (WpFn 𝓤 H (𝓣 .C) (𝓣 .Λ) (looks (t .mir) σ (n .mir) g)) (WpFn-mono 𝓤 H (W .laws) 𝓣
+        (looks (t .mir) σ (n .mir) g)) (meets 𝓣 known)

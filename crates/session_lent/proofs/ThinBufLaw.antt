@@ -35,8 +35,10 @@ use denote.Steps.{opens, closes, owned, peeks, heard, nothing}
 use denote.Struct.Steps.{spelt}
 use denote.Triple.Call.{calls-from}
 use denote.Triple.Statement.{Contract, Triple}
-use denote.Triple.Clauses.{Ended, Clauses, closing, ensured, lasts}
-use denote.Triple.Entry.{onEntry}
+use denote.Triple.Clauses.{Ended, Clauses, Lasts, AtExit, atExit, closing, ensured, lasts}
+use denote.Triple.Entry.{Args, Res, onEntry}
+use denote.Triple.Weaken.{weaken}
+use contract.Lifetimes.{Lfts}
 use denote.Triple.Spec.{Meets, tripleOf}
 use denote.Triple.Walked.{says, Stays, stay-ref, stay-none, gave-slice, walkOf, AllGo, goes-none, goes-ref, goes-gave-slice, Walks, ends-at, walked,
     walk-meets}
@@ -82,7 +84,7 @@ module _ (ν : Sym) (t p n : Data) (σ : Ty) (g : Name) (R : RattleType) (rec-of
   module _ (Fact : t .D → p .D → List ℕ → t .D → n .D → List ℕ → Type 0) {M : Type 1} (𝓤 : URA M) (H : Heap 𝓤) (A : Atoms 𝓤) (W : Given 𝓤 H A)
     (Req : t .D → p .D → List ℕ → SProp 𝓤)
       (t-laws : Ruled t) (p-laws : Ruled p) (n-laws : Ruled n) (tell : (r : R .Denot) (v : Val) → Is R r (v ∷ [])
-        → Told ν t p n σ g R rec-of res-of v r) where
+        → Told ν t n R rec-of res-of v r) where
     abbrev pub step-clauses : Clauses 𝓤 step-ended
     step-clauses κs a = record { ghost = Unit {0}; requires = λ _. Req (a .0) (a .1 .0) (now (a .1 .1 .0)); ensures = λ _ r e. fact 𝓤 (Fact (a .0)
         (a .1 .0) (now (a .1 .1 .0)) (rec-of r) (res-of r) (now (e .1 .1 .0))) }
@@ -130,7 +132,7 @@ module _ (ν : Sym) (t p n : Data) (σ : Ty) (g : Name) (R : RattleType) (rec-of
       Gives r = Fact h a ys (rec-of (r .0)) (res-of (r .0)) (r .1)
 
       abbrev Said : Val → Ans → Type 0
-      Said v r = Told ν t p n σ g R rec-of res-of v (r .0) × ((length (r .1) ≡ length ys) × Gives r)
+      Said v r = Told ν t n R rec-of res-of v (r .0) × ((length (r .1) ≡ length ys) × Gives r)
 
       abbrev Ensured : R .Denot → SProp 𝓤
       Ensured r = ensured 𝓤 H A step-ended step-clauses (κ′, tt) (h, (a, (buf, tt))) tt r
@@ -231,7 +233,16 @@ module _ (ν : Sym) (t p n : Data) (σ : Ty) (g : Name) (R : RattleType) (rec-of
         (plain (λ _. u8)), tt)))
 
     -- from the step's contract to the function's
-    pub meets : (𝓣 : Tables 𝓤 H) → Triple 𝓤 (𝓣 .C g) Step → Meets 𝓤 H A (ended .signature) (WpFn 𝓤 H (𝓣 .C) (𝓣 .Λ) (thin ν (t .mir) σ (p .mir)
+    meets : (𝓣 : Tables 𝓤 H) → Triple 𝓤 (𝓣 .C g) Step → Meets 𝓤 H A (ended .signature) (WpFn 𝓤 H (𝓣 .C) (𝓣 .Λ) (thin ν (t .mir) σ (p .mir)
         (n .mir) g)) (closing 𝓤 H A ended clauses)
     meets 𝓣 known = walk-meets 𝓤 H A ended stayed W goes clauses (WpFn 𝓤 H (𝓣 .C) (𝓣 .Λ) (thin ν (t .mir) σ (p .mir) (n .mir) g)) (WpFn-mono 𝓤 H
         (W .laws) 𝓣 (thin ν (t .mir) σ (p .mir) (n .mir) g)) (walks (𝓣 .C) (𝓣 .Λ) (fmOf 𝓤 H (W .laws) 𝓣) known)
+
+    -- and every contract whose `ensures` follows from what the step ensures
+    pub meets-so : (E : (κs : Lfts 2) (a : Args (ended .signature) κs) → Unit {0} → Res (ended .signature) κs → AtExit ended κs → SProp 𝓤)
+      → ((κs : Lfts 2) (a : Args (ended .signature) κs) (g : Unit {0}) (r : Res (ended .signature) κs) (ws : Lasts ended κs a)
+        → ent 𝓤 (clauses κs a .ensures g r (atExit ended κs a ws)) (E κs a g r (atExit ended κs a ws)))
+      → (𝓣 : Tables 𝓤 H) → Triple 𝓤 (𝓣 .C g) Step → Meets 𝓤 H A (ended .signature) (WpFn 𝓤 H (𝓣 .C) (𝓣 .Λ) (thin ν (t .mir) σ (p .mir)
+        (n .mir) g)) (closing 𝓤 H A ended (λ κs a. record { ghost = Unit {0}; requires = clauses κs a .requires; ensures = E κs a }))
+    meets-so E so 𝓣 known = weaken 𝓤 H A ended W clauses E so (WpFn 𝓤 H (𝓣 .C) (𝓣 .Λ) (thin ν (t .mir) σ (p .mir) (n .mir) g)) (WpFn-mono 𝓤 H
+        (W .laws) 𝓣 (thin ν (t .mir) σ (p .mir) (n .mir) g)) (meets 𝓣 known)

@@ -2,11 +2,12 @@
 -- FAULT, the ignored ABORT aside; after Spent; and after a connect that failed. Nothing else closes it.
 use mathlib.Core.Bool.{Bool, true, false, not, _&&_, _||_}
 use lib.Dec.{eqb}
-use Rattle.transport.specs.Wire.{Ending, ended, spent}
+use Rattle.transport.specs.Wire.{Ending, ended, spent, succeeds}
 use Rattle.transport.specs.declared.Answer.{Answer}
 use Rattle.transport.specs.declared.Answer.the-variants.{Good, SwdError, NotSupported, Other}
 use Rattle.transport.specs.declared.Outcome.{Outcome}
-use Rattle.transport.specs.declared.Outcome.the-variants.{Value, Failed}
+use Rattle.transport.specs.declared.Mode.{Mode}
+use Rattle.transport.specs.declared.Mode.the-variants as D
 use Rattle.transport.specs.declared.Remembered.{Remembered}
 use Rattle.jobs.specs.Change.{forgotten}
 use Rattle.session_phase.specs.declared.Kind.{Kind}
@@ -21,15 +22,16 @@ loss (SwdError ack) = not (eqb ack 2 || eqb ack 4)
 loss NotSupported = true
 loss Other = true
 
+-- a loss by what is in flight: the answer of an ABORT is ignored
+abbrev pub lossIn : Mode → Answer → Bool
+lossIn D.Trying a = loss a
+lossIn D.Aborting a = false
+lossIn D.Raw a = loss a
+
 -- each connect starts with SELECT and CSW unknown
 abbrev pub rememberedFor : Bool → Remembered → Remembered
 rememberedFor true r = forgotten r
 rememberedFor false r = r
-
-abbrev pub succeeds : Ending → Bool
-succeeds (ended (Value v)) = true
-succeeds (ended (Failed e)) = false
-succeeds spent = false
 
 abbrev pub finishes : Ending → Bool
 finishes (ended o) = true

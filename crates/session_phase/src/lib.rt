@@ -1,7 +1,8 @@
 // When a session is open: it closes by a loss, by a call that is never brought to its end, and by a connect that failed.
+ghost use mathlib.Core.Bool.{_||_};
 ghost use mathlib.Core.Path.{_≡_};
-ghost use Rattle.session_phase.specs.Phase.{loss, rememberedFor, isOpen, phaseEnded};
-use transport::{Answer, Remembered};
+ghost use Rattle.session_phase.specs.Phase.{loss, lossIn, rememberedFor, isOpen, phaseEnded};
+use transport::{Answer, Mode, Remembered};
 
 // What the running call's end needs to know of it: a connect decides alone whether the session is open; call 23 leaves a frame.
 pub enum Kind {
@@ -56,6 +57,27 @@ pub fn is_loss(a: Answer) -> bool
     }
 }
 
+// The answer of an ABORT is ignored: a loss of it is none.
+fn loss_in(mode: Mode, a: Answer) -> bool
+    ensures { λ r. ⌜ r ≡ lossIn mode a ⌝ }
+{
+    match mode {
+        Mode::Trying => is_loss(a),
+        Mode::Aborting => false,
+        Mode::Raw => is_loss(a),
+    }
+}
+
+// A loss is remembered until the call's end.
+pub fn has_lost(lost: bool, mode: Mode, a: Answer) -> bool
+    ensures { λ r. ⌜ r ≡ (lost || lossIn mode a) ⌝ }
+{
+    if lost {
+        return true;
+    }
+    loss_in(mode, a)
+}
+
 // A session is open after a call without a loss; after a connect only if it succeeded.
 pub fn phase_ended(kind: Kind, lost: bool, ok: bool) -> Phase
     ensures { λ r. ⌜ r ≡ phaseEnded kind lost ok ⌝ }
@@ -63,11 +85,13 @@ pub fn phase_ended(kind: Kind, lost: bool, ok: bool) -> Phase
     if lost {
         return Phase::Closed;
     }
-    if ok {
-        return Phase::Open;
-    }
     match kind {
-        Kind::Connect => Phase::Closed,
+        Kind::Connect => {
+            if ok {
+                return Phase::Open;
+            }
+            Phase::Closed
+        }
         Kind::Frame => Phase::Open,
         Kind::Plain => Phase::Open,
     }

@@ -3,14 +3,14 @@ use Prim.Native.Nat.{ℕ}
 use mathlib.Core.Bool.{Bool, false, _||_}
 use mathlib.Core.List.{List, [], _∷_}
 use lib.ListN.{length, replicate}
-use Rattle.transport.specs.Wire.{Wire, Memory, done, ask, tell, play, Played, Ending, ended, spent}
+use Rattle.transport.specs.Wire.{Wire, Memory, done, ask, tell, play, Played, Ending, ended}
 use Rattle.transport.specs.declared.Call.{Call}
 use Rattle.transport.specs.declared.Answer.{Answer}
 use Rattle.transport.specs.declared.Outcome.{Outcome}
-use Rattle.transport.specs.declared.Outcome.the-variants.{Value, Failed}
+use Rattle.transport.specs.declared.Outcome.the-variants.{Failed}
 use Rattle.transport.specs.declared.Remembered.{Remembered}
 use Rattle.jobs.specs.Change.{fresh}
-use Rattle.calls.specs.Calls.{callTree, rowFor, frameOf, coreFrame}
+use Rattle.calls.specs.Calls.{callTree, rowFor, coreFrame, frameLeft}
 use Rattle.calls.specs.declared.Frame.{Frame}
 use Rattle.calls.specs.declared.Frame.the-variants as F
 use Rattle.session_phase.specs.Phase.{loss, rememberedFor, opensAfter}
@@ -59,16 +59,10 @@ kindOf (S.WriteMem addr) = K.Plain
 kindOf (S.Core c) = kindBy (coreFrame c)
 kindOf (S.Fpb c) = K.Plain
 
--- call 23 leaves its frame where it succeeds
-abbrev pub frameLeft : Kind → Outcome → List ℕ → List ℕ → List ℕ
-frameLeft K.Connect o row frame = frame
-frameLeft K.Frame (Value v) row frame = frameOf row
-frameLeft K.Frame (Failed e) row frame = frame
-frameLeft K.Plain o row frame = frame
-
-abbrev pub frameAfter : SessionCall → Ending → List ℕ → List ℕ → List ℕ
-frameAfter c (ended o) row frame = frameLeft (kindOf c) o row frame
-frameAfter c spent row frame = frame
+abbrev pub frameBy : Kind → Frame
+frameBy K.Connect = F.Nowhere
+frameBy K.Frame = F.Left
+frameBy K.Plain = F.Nowhere
 
 -- a call and all that came of it: the transport calls made, the ending, the caller's buffer, and the session afterwards
 pub record Called : Type 0 where
@@ -85,7 +79,7 @@ settled s c lost p = record {
   after = record {
     isOpen = opensAfter (isConnect c) lost (p .ending);
     remembered = p .memory .remembered;
-    frame = frameAfter c (p .ending) (p .memory .words) (s .frame) } }
+    frame = frameLeft (engineCall c) (p .ending) (p .memory .words) (s .frame) } }
 
 abbrev pub unchanged : Standing → Outcome → List ℕ → Called
 unchanged s o buf = record { calls = []; ending = ended o; buf = buf; after = s }

@@ -8,7 +8,7 @@ use lib.Seq.{sets}
 use Rattle.numbers.specs.Results.{endingOf}
 use Rattle.numbers.specs.declared.CallEnding.{CallEnding}
 use Rattle.target.specs.declared.Act.{Act}
-use Rattle.target_run.specs.Talk.{actOf}
+use Rattle.target.specs.Line.{actOf}
 use Rattle.session.specs.Step.{standing}
 use Rattle.session_items.specs.Records.{ITEM, callAt, budgetAt, sizeAt}
 use Rattle.agreement.specs.Demand3.{Item, Moment, Made, lastOf}

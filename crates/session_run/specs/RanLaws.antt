@@ -5,25 +5,25 @@ use mathlib.Core.List.{List, []}
 use mathlib.Core.Path.{_≡_, refl, sym, ap, _∙_}
 use lib.ListN.{length}
 use native.Mathlib.Omega.{arith}
-use Rattle.transport.specs.Wire.{Wire, Memory, done, ask, tell, play, Ending, ended, spent}
+use Rattle.transport.specs.Wire.{Wire, Memory, memoryOf, done, ask, tell, play, Ending, ended, spent, succeeds}
 use Rattle.transport.specs.declared.ArmError.{ArmError}
 use Rattle.transport.specs.declared.Outcome.{Outcome}
 use Rattle.transport.specs.declared.Outcome.the-variants.{Value, Failed}
 use Rattle.transport.specs.declared.Remembered.{Remembered}
-use Rattle.memap.specs.Flight.{memoryOf}
 use Rattle.numbers.specs.Results.{endingOf, resultOf}
 use Rattle.numbers.specs.declared.CallEnding.{CallEnding}
-use Rattle.calls.specs.Calls.{coreFrame}
+use Rattle.calls.specs.Calls.{coreFrame, frameFor, leave, frameLeft}
 use Rattle.calls.specs.declared.Frame.{Frame}
 use Rattle.calls.specs.declared.Frame.the-variants as F
-use Rattle.engine.specs.Step.{memoryIn, Waits}
+use Rattle.engine.specs.Step.{memoryIn}
+use Rattle.engine.specs.StepLaws.{Waits}
 use Rattle.target.specs.declared.Target.{Target}
 use Rattle.target.specs.declared.Act.{Act}
 use Rattle.target_run.specs.Talk.{Talk, talk, silent}
-use Rattle.session_rules.specs.Admits.{isConnect, refusal}
+use Rattle.session_rules.specs.Admits.{engineCall, isConnect, refusal}
 use Rattle.session_phase.specs.Phase.{opensAfter, isOpen, connects, phaseAfter}
 use Rattle.session_phase.specs.PhaseLaws.{open-phase}
-use Rattle.session_rules.specs.Session.{Standing, kindBy, kindOf, frameLeft, frameAfter, sessionTree}
+use Rattle.session_rules.specs.Session.{Standing, kindBy, kindOf, frameBy, sessionTree}
 use Rattle.session.specs.Step.{phaseIn, frameIn, standing, Answers}
 use Rattle.session_rules.specs.declared.SessionCall.{SessionCall}
 use Rattle.session_rules.specs.declared.SessionCall.the-variants as S
@@ -55,6 +55,26 @@ kind-connects (S.Core c) = frame-connects (coreFrame c)
     frame-connects F.Left = refl
 kind-connects (S.Fpb c) = refl
 
+-- so is its rule for the frame
+frame-kind : (c : SessionCall) (ok : Bool) (row frame : List ℕ) → leave (frameBy (kindOf c)) ok row frame ≡ leave (frameFor (engineCall c)) ok row frame
+frame-kind S.ConnectSwd ok row frame = refl
+frame-kind (S.ReadWord addr) ok row frame = refl
+frame-kind (S.WriteWord addr word) ok row frame = refl
+frame-kind (S.ReadMem addr) ok row frame = refl
+frame-kind (S.WriteMem addr) ok row frame = refl
+frame-kind (S.Core c) ok row frame = leaves (coreFrame c)
+  where
+    leaves : (f : Frame) → leave (frameBy (kindBy f)) ok row frame ≡ leave f ok row frame
+    leaves F.Nowhere = refl
+    leaves F.Found = refl
+    leaves F.Left = refl
+frame-kind (S.Fpb c) ok row frame = refl
+
+leave-fails : (f : Frame) (row frame : List ℕ) → frame ≡ leave f false row frame
+leave-fails F.Nowhere row frame = refl
+leave-fails F.Found row frame = refl
+leave-fails F.Left row frame = refl
+
 phase-opens : (c : SessionCall) (lost : Bool) (o : Outcome) → isOpen (phaseAfter (kindOf c) lost o) ≡ opensAfter (isConnect c) lost (ended o)
 phase-opens c lost o = open-phase _ ∙ ap (λ (connect : Bool). opensAfter connect lost (ended o)) (kind-connects c)
 
@@ -68,16 +88,17 @@ standing-is a b r q f g h i j = rw (h, i, j)
 
 -- the session at the end of a call, and where its budget ended
 pub record Settles (s₀ : Session) (c : SessionCall) (lost : Bool) (m : Memory) (e : Ending) (s : Session) (lent : List ℕ) : Type 0 where
-  pub stands : standing s ≡ record { isOpen = opensAfter (isConnect c) lost e; remembered = m .remembered; frame = frameAfter c e (m .words)
-    (s₀ .frame) }
+  pub stands : standing s ≡ record { isOpen = opensAfter (isConnect c) lost e; remembered = m .remembered; frame = frameLeft (engineCall c) e
+    (m .words) (s₀ .frame) }
   pub buf : lent ≡ m .buf
 
 pub settles-done : (s₀ : Session) (c : SessionCall) (lost : Bool) (m : Memory) (o : Outcome) (s : Session) (r : Reply) (lent : List ℕ)
   → Answers (kindOf c) lost (s₀ .frame) (done m o) s r lent → Settles s₀ c lost m (ended o) s lent
 settles-done s₀ c lost m o s r lent h = record {
   stands = standing-is (isOpen (s .phase)) (opensAfter (isConnect c) lost (ended o)) (s .state .remembered) (m .remembered) (s .frame) (frameLeft
-    (kindOf c) o (m .words) (s₀ .frame))
-    (ap isOpen (h .phase) ∙ phase-opens c lost o) (ap (λ (x : Memory). x .remembered) (h .memory)) (h .frame);
+    (engineCall c) (ended o) (m .words) (s₀ .frame))
+    (ap isOpen (h .phase) ∙ phase-opens c lost o) (ap (λ (x : Memory). x .remembered) (h .memory))
+    (h .frame ∙ frame-kind c (succeeds (ended o)) (m .words) (s₀ .frame));
   buf = ap (λ (x : Memory). x .buf) (h .memory) }
 
 running-closed : (kind : Kind) (lost : Bool) (w : Wire) → Waits w → isOpen (phaseIn kind lost w) ≡ false
@@ -94,9 +115,9 @@ pub settles-spent : (s₀ : Session) (c : SessionCall) (lost : Bool) (w : Wire) 
   → Answers (kindOf c) lost (s₀ .frame) w s r lent → Settles s₀ c lost (memoryIn w) spent s lent
 settles-spent s₀ c lost w s r lent g h = record {
   stands = standing-is (isOpen (s .phase)) (opensAfter (isConnect c) lost spent) (s .state .remembered) (memoryIn w .remembered) (s .frame)
-    (s₀ .frame)
+    (frameLeft (engineCall c) spent (memoryIn w .words) (s₀ .frame))
     (ap isOpen (h .phase) ∙ running-closed (kindOf c) lost w g ∙ spent-closed lost) (ap (λ (x : Memory). x .remembered) (h .memory))
-    (h .frame ∙ running-frame (kindOf c) w (s₀ .frame) g);
+    (h .frame ∙ running-frame (kindOf c) w (s₀ .frame) g ∙ leave-fails (frameFor (engineCall c)) (memoryIn w .words) (s₀ .frame));
   buf = ap (λ (x : Memory). x .buf) (h .memory) }
 
 -- all that a run shows is what `made` says

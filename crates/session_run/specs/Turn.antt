@@ -10,11 +10,11 @@ use Rattle.transport.specs.declared.Answer.{Answer}
 use Rattle.numbers.specs.declared.CallEnding.{CallEnding}
 use Rattle.numbers.specs.declared.TransportCall.{TransportCall}
 use Rattle.engine.specs.declared.NextStep.the-variants as N
-use Rattle.target.specs.Line.{line, told}
+use Rattle.target.specs.Line.{line, told, actOf}
 use Rattle.target.specs.declared.Delivered.{Delivered}
 use Rattle.target.specs.declared.Target.{Target}
 use Rattle.target.specs.declared.Act.{Act}
-use Rattle.target_run.specs.Talk.{actOf, actNow, actsThen}
+use Rattle.target_run.specs.Talk.{actNow, actsThen}
 use Rattle.session.specs.Step.{Stepped}
 use Rattle.session_rules.specs.declared.SessionCall.{SessionCall}
 use Rattle.session.specs.declared.Session.{Session}

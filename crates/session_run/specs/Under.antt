@@ -19,8 +19,9 @@ use Rattle.numbers.specs.Results.{resultOf}
 use Rattle.numbers.specs.declared.CallEnding.{CallEnding}
 use Rattle.numbers.specs.declared.TransportCall.{TransportCall}
 use Rattle.transport.specs.Flight.{dueOf}
-use Rattle.engine.specs.State.{stateTree}
-use Rattle.engine.specs.Step.{nextOf, memoryIn, Waits}
+use Rattle.engine.specs.State.{flightTree, stateTree}
+use Rattle.engine.specs.Step.{nextOf, memoryIn}
+use Rattle.engine.specs.StepLaws.{Waits, flies}
 use Rattle.engine.specs.declared.NextStep.{NextStep}
 use Rattle.engine.specs.declared.NextStep.the-variants as N
 use Rattle.engine.specs.declared.State.{State}
@@ -55,7 +56,7 @@ flight-due D.Trying m t k = refl
 flight-due D.Aborting m t k = refl
 flight-due D.Raw m t k = refl
 
-state-due : (s : Session) (buf : List ℕ) → dueIn (stateTree (s .state) (s .row) buf) (dueNow s)
+state-due : (s : Session) (buf : List ℕ) → dueIn (flightTree (s .state) (s .row) buf) (dueNow s)
 state-due s buf = flight-due (s .state .started .launched .transfer .mode) _ (s .state .started .launched .transfer) _
 
 running : (kind : Kind) (lost : Bool) (w : Wire) → Waits w → phaseIn kind lost w ≡ P.Running kind lost
@@ -112,7 +113,7 @@ module _ (s₀ : Session) (c : SessionCall) (budget : ℕ) (buf₀ : List ℕ) (
       let z : _≡_ {A = ℕ} 0 1 = cc in absurd (omega arith)
   under-more i acts s r t mem buf x s′ r′ buf′ n l (walking e w lost wk an) st =
       walking e (follow w A) (lost || lostBy w A)
-      (walk-more (budget - (i + 1)) acts t mem w (dueNow s) (subst (λ (v : Wire). dueIn v (dueNow s)) (sym here) (state-due s buf))
+      (walk-more (budget - (i + 1)) acts t mem w (dueNow s) (subst (λ (v : Wire). dueIn v (dueNow s)) (sym (flies w (s .state) (s .row) buf here due)) (state-due s buf))
         (subst (λ (j : ℕ). Walked i lost (tree s₀ c budget buf₀ acts₀ t₀ mem₀) (heard s₀ c budget buf₀ acts₀ t₀ mem₀) w
           (talk w j acts t mem)) less wk))
       (subst (λ (f : List ℕ). Answers (kindOf c) (lost || lostBy w A) f (follow w A) s′ r′ buf′) kept
@@ -126,7 +127,7 @@ module _ (s₀ : Session) (c : SessionCall) (budget : ℕ) (buf₀ : List ℕ) (
       due = make-waits w x (n ∙ an .next)
 
       here : w ≡ stateTree (s .state) (s .row) buf
-      here = an .tree due
+      here = an .tree
 
       kept : s .frame ≡ s₀ .frame
       kept = an .frame ∙ running-frame (kindOf c) w (s₀ .frame) due

@@ -13,7 +13,8 @@ use Rattle.target.specs.Line.{line}
 use Rattle.target.specs.declared.Target.{Target}
 use Rattle.target.specs.declared.Act.{Act}
 use Rattle.target_run.specs.Talk.{Talk, talk, silent, heardFirst, actNow, actsThen}
-use Rattle.engine.specs.Step.{memoryIn, Waits}
+use Rattle.engine.specs.Step.{memoryIn}
+use Rattle.engine.specs.StepLaws.{Waits}
 use Rattle.session_phase.specs.Phase.{loss}
 use Rattle.session_rules.specs.Session.{lostIn}
 use Rattle.session.specs.Step.{lostBy}

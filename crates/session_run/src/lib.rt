@@ -62,7 +62,7 @@ fn note_result(results: &mut [u64], i: usize, e: CallEnding)
 fn act_at(acts: &[u32], at: usize) -> Act
     ensures { λ r. ⌜ r ≡ actNow (actsOf (drop at (now (acts .entry)))) ⌝ }
 {
-    target_run::act_of(session_items::word_at(acts, at))
+    target_line::act_of(session_items::word_at(acts, at))
 }
 
 // The place of the act after that.

@@ -2,8 +2,8 @@
 -- ack 2, with the call undelivered; or loses it, delivered or not, and the engine gets an error other than ack 2 and 4.
 use mathlib.Core.Bool.{Bool, true, false}
 use mathlib.Core.List.{List}
-use Prim.Native.Nat.{ℕ}
-use lib.Dec.{eqb}
+use Prim.Native.Nat.{ℕ, _/_, _%_}
+use lib.Dec.{eqb, ltb}
 use Rattle.transport.specs.declared.Call.{Call}
 use Rattle.transport.specs.declared.Answer.{Answer}
 use Rattle.transport.specs.declared.Answer.the-variants as W
@@ -42,3 +42,12 @@ line t m c (Lose delivered e) = pick delivered (heard (errorOf e) (deliver t m c
 -- the struct that the code returns of it; the memory is what the lent slice holds
 abbrev pub told : Heard → Delivered
 told h = record { target = h .target; answer = h .answer }
+
+-- an error of a loss: 256 NotSupported, 257 other, below them the ack
+abbrev pub lossOf : ℕ → Loss
+lossOf k = pick (ltb k 256) (Ack k) (pick (eqb k 256) NotSupported Other)
+
+-- an act as a number: 0 delivers, 1 is WAIT; 2 loses what was delivered and 3 what was not, plus four times the error
+abbrev pub actOf : ℕ → Act
+actOf x =
+    pick (eqb (x % 4) 0) Deliver (pick (eqb (x % 4) 1) Wait (Lose (eqb (x % 4) 2) (lossOf (x / 4))))

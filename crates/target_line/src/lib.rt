@@ -1,8 +1,8 @@
-// A transport call to the model target, and over the line between engine and target.
+// A transport call to the model target, and over the line between engine and target; what the line does as numbers.
 ghost use mathlib.Core.Path.{_≡_};
 ghost use mathlib.Core.Bool.{Bool};
 ghost use Rattle.target.specs.Deliver.{exemptDp, barred, good, given, transfer, deliver};
-ghost use Rattle.target.specs.Line.{errorOf, line, told};
+ghost use Rattle.target.specs.Line.{errorOf, line, told, lossOf, actOf};
 use target::Act;
 use target::Delivered;
 use target::Done;
@@ -129,4 +129,31 @@ pub fn over_line(t: Target, c: Call, act: Act, mem: &mut [u8]) -> Delivered
             }
         }
     }
+}
+
+// The error of a lost transport call by its number.
+fn loss_of(k: u32) -> Loss
+    ensures { λ r. ⌜ r ≡ lossOf k ⌝ }
+{
+    if k < 256 {
+        return Loss::Ack(k as u8);
+    }
+    if k == 256 {
+        return Loss::NotSupported;
+    }
+    Loss::Other
+}
+
+// What the line does, by its number.
+pub fn act_of(x: u32) -> Act
+    ensures { λ r. ⌜ r ≡ actOf x ⌝ }
+{
+    if x % 4 == 0 {
+        return Act::Deliver;
+    }
+    if x % 4 == 1 {
+        return Act::Wait;
+    }
+    let error = loss_of(x / 4);
+    Act::Lose { delivered: x % 4 == 2, error: error }
 }

@@ -6,23 +6,23 @@ use mathlib.Core.Path.{_≡_, refl, sym, ap, subst, _∙_}
 use native.Mathlib.Omega.{arith}
 use native.Mathlib.Numerals.{add-one}
 use lib.ListN.{getD, set}
-use Rattle.transport.specs.Wire.{Wire, done, ask, tell, follow, play, Played, made}
+use Rattle.transport.specs.Wire.{memoryOf, Wire, done, ask, tell, follow, play, Played, made}
 use Rattle.transport.specs.declared.Call.{Call}
 use Rattle.transport.specs.declared.Answer.{Answer}
-use Rattle.memap.specs.Flight.{memoryOf}
 use Rattle.numbers.specs.Log.{answerOf, codeOf, callOf}
 use Rattle.numbers.specs.declared.TransportCall.{TransportCall}
-use Rattle.target.specs.Line.{line}
+use Rattle.target.specs.Line.{line, actOf}
 use Rattle.target.specs.declared.Target.{Target}
 use Rattle.target.specs.declared.Act.{Act}
-use Rattle.engine.specs.State.{stateTree}
-use Rattle.engine.specs.Step.{nextOf, memoryIn, Waits, Steps}
+use Rattle.engine.specs.State.{flightTree, stateTree}
+use Rattle.engine.specs.Step.{nextOf, memoryIn, Steps}
+use Rattle.engine.specs.StepLaws.{Waits, flies}
 use Rattle.engine_run.specs.Along.{Along, along-none, along-more, play-flight}
 use Rattle.engine.specs.declared.State.{State}
 use Rattle.engine.specs.declared.NextStep.{NextStep}
 use Rattle.engine.specs.declared.NextStep.the-variants as N
 use Rattle.engine.specs.declared.StepAnswer.{StepAnswer}
-use Rattle.target_run.specs.Talk.{Talk, heardFirst, talk, actOf}
+use Rattle.target_run.specs.Talk.{Talk, heardFirst, talk}
 use Rattle.target_run.specs.Over.{answerCode, noted, Legible}
 use Rattle.target_run.specs.TalkLaws.{dueIn, actsFrom, leftTalk, talk-turn}
 
@@ -49,7 +49,7 @@ pub record Comes (w₀ : Wire) (k₀ : Talk) (budget : ℕ) (xs : List ℕ) (i :
   pub tree : Wire
   pub next : n ≡ nextOf tree
   pub memory : memoryOf (s .remembered) ws buf ≡ memoryIn tree
-  pub stands : Waits tree → tree ≡ stateTree s ws buf
+  pub stands : tree ≡ stateTree s ws buf
   pub led : Led i l₀ l h₀ h (play w₀ (k₀ .answers)) k₀ (play tree (leftTalk tree budget xs i t mem .answers)) (leftTalk tree budget xs i t mem)
 
 pub comes-start : (w : Wire) (a : StepAnswer) (budget : ℕ) (xs : List ℕ) (t : Target) (mem ws buf l h : List ℕ) → Steps w a ws buf
@@ -71,25 +71,26 @@ waits (done m o) h = h
 waits (ask m c f) h = h
 waits (tell m c w) h = h
 
--- a transport call is due: the tree is the state's
-pub due-tree : (w : Wire) (n : NextStep) (c : TransportCall) (v : Wire) → n ≡ nextOf w → n ≡ N.Make c → (Waits w → w ≡ v) → w ≡ v
-due-tree w n c v e h f = f (waits w (subst Making (sym h ∙ e) tt))
+-- a transport call is due: the tree is what is in flight
+pub due-tree : (w : Wire) (n : NextStep) (c : TransportCall) (s : State) (ws b : List ℕ) → n ≡ nextOf w → n ≡ N.Make c → w ≡ stateTree s ws b
+  → w ≡ flightTree s ws b
+due-tree w n c s ws b e h f = flies w s ws b f (waits w (subst Making (sym h ∙ e) tt))
 
 -- one turn of the run and the talk of a state's tree
 pub led-turn : (s : State) (ws b : List ℕ) (budget : ℕ) (xs : List ℕ) (i : ℕ) (t : Target) (mem : List ℕ) (act : Act) (l₀ l h₀ h : List ℕ)
     (p : Played) (k : Talk)
   → i < budget → act ≡ actOf (getD xs i 0) → callOf (codeOf (dueIn s)) ≡ dueIn s
   → answerOf (answerCode (line t mem (dueIn s) act .answer)) ≡ line t mem (dueIn s) act .answer
-  → Led i l₀ l h₀ h p k (play (stateTree s ws b) (leftTalk (stateTree s ws b) budget xs i t mem .answers)) (leftTalk
-    (stateTree s ws b) budget xs i t mem)
+  → Led i l₀ l h₀ h p k (play (flightTree s ws b) (leftTalk (flightTree s ws b) budget xs i t mem .answers)) (leftTalk
+    (flightTree s ws b) budget xs i t mem)
   → Led (i + 1) l₀ (set l i (codeOf (dueIn s))) h₀ (set h i (answerCode (line t mem (dueIn s) act .answer))) p k
-      (play (follow (stateTree s ws b) (line t mem (dueIn s) act .answer))
-        (leftTalk (follow (stateTree s ws b) (line t mem (dueIn s) act .answer)) budget xs (i + 1) (line t mem (dueIn s) act .target) (line t mem
+      (play (follow (flightTree s ws b) (line t mem (dueIn s) act .answer))
+        (leftTalk (follow (flightTree s ws b) (line t mem (dueIn s) act .answer)) budget xs (i + 1) (line t mem (dueIn s) act .target) (line t mem
           (dueIn s) act .mem) .answers))
-      (leftTalk (follow (stateTree s ws b) (line t mem (dueIn s) act .answer)) budget xs (i + 1) (line t mem (dueIn s) act .target) (line t mem
+      (leftTalk (follow (flightTree s ws b) (line t mem (dueIn s) act .answer)) budget xs (i + 1) (line t mem (dueIn s) act .target) (line t mem
         (dueIn s) act .mem))
 led-turn s ws b budget xs i t mem act l₀ l h₀ h p k lt e r q x =
-    let w : Wire = stateTree s ws b in
+    let w : Wire = flightTree s ws b in
     let a : Answer = line t mem (dueIn s) act .answer in
     let j : Talk = leftTalk (follow w a) budget xs (i + 1) (line t mem (dueIn s) act .target) (line t mem (dueIn s) act .mem) in
     led-more i l₀ l h₀ h p k (play (follow w a) (j .answers)) j (dueIn s) a r q

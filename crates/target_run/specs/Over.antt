@@ -28,8 +28,9 @@ abbrev pub Legible : List Answer → Type 0
 Legible answers = map answerOf (map answerCode answers) ≡ answers
 
 -- x, what the caller lent, and the memory report the call c with the tree w over target and line, of which k is the talk
-pub record RanOver (c : EngineCall) (w : Wire) (k : Talk) (x : TargetRan) (words₀ words buf log₀ log heard₀ heard mem : List ℕ) : Type 0 where
-  pub ran : RanAs c (play w (k .answers)) (x .ran) words₀ words buf log₀ log
+pub record RanOver (c : EngineCall) (w : Wire) (k : Talk) (x : TargetRan)
+    (frame₀ words₀ frame words buf log₀ log heard₀ heard mem : List ℕ) : Type 0 where
+  pub ran : RanAs c (play w (k .answers)) (x .ran) frame₀ words₀ frame words buf log₀ log
   pub target : x .target ≡ k .target
   pub memory : mem ≡ k .mem
   pub answers : heard ≡ noted heard₀ 0 (k .answers)

@@ -1,33 +1,33 @@
 -- The report of a run over target and line, from what is left of it when the call has ended or the budget is spent. Serves the
 -- proofs only.
 use Prim.Native.Nat.{ℕ, _-_, _≤_}
-use mathlib.Core.Bool.{Bool, true, false, true≢false}
+use mathlib.Core.Bool.{Bool, true, false}
 use mathlib.Core.List.{List, [], map}
 use mathlib.Core.Path.{_≡_, refl, sym, ap, subst, _∙_}
 use native.Mathlib.Omega.{arith}
-use Rattle.transport.specs.Wire.{Wire, Memory, done, ask, tell, play, Played, spent}
+use lib.Dec.{eqb}
+use Rattle.transport.specs.Wire.{Wire, Memory, memoryOf, done, ask, tell, play, Played, spent}
 use Rattle.transport.specs.declared.Remembered.{Remembered}
 use Rattle.transport.specs.declared.Transfer.{Transfer}
-use Rattle.memap.specs.Flight.{memoryOf}
 use Rattle.numbers.specs.Results.{endingOf}
 use Rattle.numbers.specs.declared.CallEnding.{CallEnding}
 use Rattle.numbers.specs.declared.TransportCall.{TransportCall}
 use Rattle.target.specs.declared.Target.{Target}
 use Rattle.calls.specs.Calls.{lent, pick, frameFor, leave}
-use Rattle.engine.specs.State.{stateTree}
+use Rattle.engine.specs.State.{flightTree}
 use Rattle.engine.specs.Step.{nextOf, memoryIn, Steps, Lent}
 use Rattle.engine_run.specs.Run.{Reports, RanAs}
 use Rattle.engine_run.specs.Along.{Along, play-nil}
-use Rattle.engine_run.specs.Runs.{ended-at, spent-at, own-ran, row-ran}
+use Rattle.engine_run.specs.Runs.{ended-at, spent-at, own-frame, own-ran, row-ran}
 use Rattle.calls.specs.declared.EngineCall.{EngineCall}
-use Rattle.calls.specs.declared.EngineCall.the-variants as C
 use Rattle.calls.specs.declared.Frame.{Frame}
 use Rattle.engine.specs.declared.State.{State}
 use Rattle.engine.specs.declared.NextStep.{NextStep}
 use Rattle.engine.specs.declared.NextStep.the-variants as N
 use Rattle.engine.specs.declared.StepAnswer.{StepAnswer}
 use Rattle.engine_run.specs.declared.Ran.{Ran}
-use Rattle.target_run.specs.Talk.{Talk, silent, talk, actOf}
+use Rattle.target_run.specs.Talk.{Talk, silent, talk}
+use Rattle.target.specs.Line.{actOf}
 use Rattle.target_run.specs.Over.{noted, Legible, RanOver}
 use Rattle.target_run.specs.declared.TargetRan.{TargetRan}
 use Rattle.target_run.specs.TalkLaws.{actsFrom, talk-none, leftTalk, talk-done}
@@ -91,42 +91,38 @@ pub comes-spent : (w₀ : Wire) (k₀ : Talk) (budget : ℕ) (xs : List ℕ) (i 
   → OverAs w₀ k₀ (record { ran = record { count = i; ending = endingOf spent; remembered = s .remembered }; target = t }) ws buf l₀ l h₀ h mem
 comes-spent w₀ k₀ budget xs i s n t mem ws buf l₀ l h₀ h c le mk y =
     let p : Played = play w₀ (k₀ .answers) in
-    let w : Wire = stateTree s ws buf in
+    let w : Wire = flightTree s ws buf in
     let f : Transfer = s .started .launched .transfer in
     let z : budget - i ≡ 0 = omega arith in
     let begins = subst (λ (z : Wire). Led i l₀ l h₀ h p k₀ (play z (leftTalk z budget xs i t mem .answers)) (leftTalk z budget xs i t mem))
-        (due-tree (y .tree) n c w (y .next) mk (y .stands)) (y .led) in
+        (due-tree (y .tree) n c s ws buf (y .next) mk (y .stands)) (y .led) in
     let at = subst (λ (z : Talk). Led i l₀ l h₀ h p k₀ (play w (z .answers)) z)
         (ap (λ (n : ℕ). talk w n (actsFrom xs i) t mem) z ∙ talk-none (f .mode) _ f _ (actsFrom xs i) t mem) begins in
     nothing-left i l₀ l h₀ h w₀ k₀ (play w []) t mem ws buf (record { count = i; ending = endingOf spent; remembered = s .remembered }) at
     (spent-at i l₀ l p (s .remembered) ws buf (subst (λ (z : Played). Along i l₀ l p z) (play-nil (f .mode) _ f _) (at .along)))
 
 -- a report over the words of the call's runs is one over what the caller lent
-own-kept : (c : EngineCall) (row words : List ℕ) → true ≡ lent c → leave (frameFor c) row words ≡ words
-own-kept (C.Connect c) row words e = refl
-own-kept (C.Memory c) row words e = refl
-own-kept (C.Core c) row words e = absurd (true≢false e)
-own-kept (C.Fpb c) row words e = refl
-own-kept (C.Nrf c) row words e = refl
-
-over-lent : (c : EngineCall) (own : Bool) (f : Frame) (p : Played) (r : Ran) (row words words₀ row₀ left b l₀ l : List ℕ) → own ≡ lent c
-    → f ≡ frameFor c
-  → pick own row words ≡ pick own row₀ words₀ → left ≡ leave f row words → Reports p r (pick own words row) b l₀ l → RanAs c p r words₀ left b l₀ l
-over-lent c true f p r row words words₀ row₀ left b l₀ l e g o k h =
-    subst (λ (z : List ℕ). RanAs c p r words₀ z b l₀ l) (sym (k ∙ ap (λ (f : Frame). leave f row words) g ∙ own-kept c row words e))
-    (own-ran c p r words words₀ b l₀ l e h)
-over-lent c false f p r row words words₀ row₀ left b l₀ l e g o k h =
-    row-ran c f p r row words₀ left b l₀ l e g h (k ∙ ap (leave f row) o)
+over-lent : (c : EngineCall) (own : Bool) (f : Frame) (p : Played) (r : Ran) (row words words₀ row₀ frame₀ frame b l₀ l : List ℕ) → own ≡ lent c
+  → f ≡ frameFor c → pick own row words ≡ pick own row₀ words₀ → frame ≡ leave f (eqb (r .ending .number) 0) row frame₀
+  → Reports p r (pick own words row) b l₀ l → RanAs c p r frame₀ words₀ frame words b l₀ l
+over-lent c true f p r row words words₀ row₀ frame₀ frame b l₀ l e g o k h =
+    let ok : Bool = eqb (r .ending .number) 0 in
+    subst (λ (z : List ℕ). RanAs c p r frame₀ words₀ z words b l₀ l)
+    (own-frame c ok row frame₀ e ∙ sym (k ∙ ap (λ (f : Frame). leave f ok row frame₀) g))
+    (own-ran c p r words frame₀ words₀ b l₀ l e h)
+over-lent c false f p r row words words₀ row₀ frame₀ frame b l₀ l e g o k h =
+    subst (λ (z : List ℕ). RanAs c p r frame₀ z frame words b l₀ l) o (row-ran c f p r row frame₀ frame words b l₀ l e g h k)
 
 -- the run of a call: its start, and what follows
 pub call-over : (c : EngineCall) (f : Frame) (w : Wire) (a : StepAnswer) (budget : ℕ) (xs : List ℕ) (t : Target) (x : TargetRan)
-  (row₀ words₀ row₁ words₁ buf₁ row words left mem₀ mem buf l₀ l h₀ h : List ℕ) → f ≡ frameFor c → Lent (lent c) w a row₀ words₀ row₁ words₁ buf₁
-  → Drives a budget xs t mem₀ row₁ words₁ buf₁ l₀ h₀ x mem row words buf l h → left ≡ leave f row words
-  → RanOver c w (talk w budget (map actOf xs) t mem₀) x words₀ left buf l₀ l h₀ h mem
-call-over c f w a budget xs t x row₀ words₀ row₁ words₁ buf₁ row words left mem₀ mem buf l₀ l h₀ h g s d k =
+  (row₀ words₀ row₁ words₁ buf₁ row words frame₀ frame mem₀ mem buf l₀ l h₀ h : List ℕ) → f ≡ frameFor c
+  → Lent (lent c) w a row₀ words₀ row₁ words₁ buf₁
+  → Drives a budget xs t mem₀ row₁ words₁ buf₁ l₀ h₀ x mem row words buf l h → frame ≡ leave f (eqb (x .ran .ending .number) 0) row frame₀
+  → RanOver c w (talk w budget (map actOf xs) t mem₀) x frame₀ words₀ frame words buf l₀ l h₀ h mem
+call-over c f w a budget xs t x row₀ words₀ row₁ words₁ buf₁ row words frame₀ frame mem₀ mem buf l₀ l h₀ h g s d k =
     let own : Bool = a .state .own in
     let st = subst (λ (z : Bool). Steps w a (pick z words₁ row₁) buf₁) (sym (s .whose)) (s .steps) in
     let other = subst (λ (z : Bool). pick z row₁ words₁ ≡ pick z row₀ words₀) (sym (s .whose)) (s .other) in
     let y = d .1 w st in
-    record { ran = over-lent c own f _ (x .ran) row words words₀ row₀ left buf l₀ l (s .whose) g (d .0 ∙ other) k (y .ran);
+    record { ran = over-lent c own f _ (x .ran) row words words₀ row₀ frame₀ frame buf l₀ l (s .whose) g (d .0 ∙ other) k (y .ran);
       target = y .target; memory = y .memory; answers = y .answers; legible = y .legible }

@@ -13,13 +13,13 @@ use Rattle.transport.specs.declared.Outcome.{Outcome}
 use Rattle.transport.specs.declared.Mode.{Mode}
 use Rattle.transport.specs.declared.Mode.the-variants as D
 use Rattle.transport.specs.declared.Transfer.{Transfer}
-use Rattle.target.specs.Line.{line}
+use Rattle.target.specs.Line.{line, actOf}
 use Rattle.target.specs.declared.Target.{Target}
 use Rattle.target.specs.declared.Act.{Act}
 use Rattle.transport.specs.Flight.{dueOf}
-use Rattle.engine.specs.State.{stateTree}
+use Rattle.engine.specs.State.{flightTree}
 use Rattle.engine.specs.declared.State.{State}
-use Rattle.target_run.specs.Talk.{Talk, silent, heardFirst, actNow, actsThen, talk, actOf}
+use Rattle.target_run.specs.Talk.{Talk, silent, heardFirst, actNow, actsThen, talk}
 
 -- the transport call that is due in a state
 abbrev pub dueIn : State → Call
@@ -66,10 +66,10 @@ leftTalk w budget xs i t mem = talk w (budget - i) (actsFrom xs i) t mem
 
 pub talk-turn : (s : State) (ws b : List ℕ) (budget : ℕ) (xs : List ℕ) (i : ℕ) (t : Target) (mem : List ℕ) (act : Act) → i < budget
     → act ≡ actOf (getD xs i 0)
-  → leftTalk (stateTree s ws b) budget xs i t mem ≡ thenTalk (follow (stateTree s ws b)) (budget - (i + 1)) (actsFrom xs (i + 1)) t mem (dueIn s) act
+  → leftTalk (flightTree s ws b) budget xs i t mem ≡ thenTalk (follow (flightTree s ws b)) (budget - (i + 1)) (actsFrom xs (i + 1)) t mem (dueIn s) act
 talk-turn s ws b budget xs i t mem act h e =
     let n : budget - i ≡ suc (budget - (i + 1)) = omega arith in
-    let w : Wire = stateTree s ws b in
+    let w : Wire = flightTree s ws b in
     ap (λ (n : ℕ). talk w n (actsFrom xs i) t mem) n
     ∙ talk-flight (s .started .launched .transfer .mode) _ (s .started .launched .transfer) _ (budget - (i + 1)) (actsFrom xs i) t mem
     ∙ ap (λ (z : List Act). thenTalk (follow w) (budget - (i + 1)) z t mem (dueIn s) (actNow (actsFrom xs i))) (acts-then xs i

@@ -10,18 +10,18 @@ use Rattle.transport.specs.declared.Call.{Call}
 use Rattle.transport.specs.declared.Answer.{Answer}
 use Rattle.numbers.specs.Log.{answerOf, codeOf, callOf}
 use Rattle.numbers.specs.declared.TransportCall.{TransportCall}
-use Rattle.target.specs.Line.{line, told}
+use Rattle.target.specs.Line.{line, told, actOf}
 use Rattle.target.specs.declared.Target.{Target}
 use Rattle.target.specs.declared.Act.{Act}
 use Rattle.target.specs.declared.Delivered.{Delivered}
 use Rattle.calls.specs.Calls.{pick}
-use Rattle.engine.specs.State.{stateTree}
-use Rattle.engine.specs.Step.{Lent}
+use Rattle.engine.specs.State.{flightTree, stateTree}
+use Rattle.engine.specs.Step.{Steps, Lent}
 use Rattle.engine.specs.declared.State.{State}
 use Rattle.engine.specs.declared.NextStep.{NextStep}
 use Rattle.engine.specs.declared.NextStep.the-variants as N
 use Rattle.engine.specs.declared.StepAnswer.{StepAnswer}
-use Rattle.target_run.specs.Talk.{Talk, actOf}
+use Rattle.target_run.specs.Talk.{Talk}
 use Rattle.target_run.specs.Over.{answerCode}
 use Rattle.target_run.specs.declared.Turned.{Turned}
 use Rattle.target_run.specs.TalkLaws.{dueIn, leftTalk}
@@ -70,12 +70,14 @@ pub comes-turn : (own : Bool) (w₀ : Wire) (k₀ : Talk) (budget : ℕ) (xs : L
   → Comes w₀ k₀ budget xs i s n t mem (pick own words row) buf l₀ l h₀ h
   → Comes w₀ k₀ budget xs (i + 1) (x .step .state) (x .step .next) (x .target) mem₂ (pick own words₂ row₂) buf₂ l₀ l₂ h₀ h₂
 comes-turn own w₀ k₀ budget xs i s n t mem row words buf l₀ l h₀ h c act x mem₂ row₂ words₂ buf₂ l₂ h₂ lt mk e o y z =
-    let st = turned-step own s i act t mem row words buf l h x mem₂ row₂ words₂ buf₂ l₂ h₂ o y .steps in
-    let w : Wire = stateTree s (pick own words row) buf in
+    let w : Wire = flightTree s (pick own words row) buf in
     let v : Wire = follow w (line t mem (dueIn s) act .answer) in
     let p : Played = play w₀ (k₀ .answers) in
+    let here : z .tree ≡ w = due-tree (z .tree) n c s (pick own words row) buf (z .next) mk (z .stands) in
+    let st = subst (λ (u : Wire). Steps (follow u (line t mem (dueIn s) act .answer)) (x .step) (pick own words₂ row₂) buf₂) (sym (z .stands) ∙ here)
+        (turned-step own s i act t mem row words buf l h x mem₂ row₂ words₂ buf₂ l₂ h₂ o y .steps) in
     let begins = subst (λ (z : Wire). Led i l₀ l h₀ h p k₀ (play z (leftTalk z budget xs i t mem .answers)) (leftTalk z budget xs i t mem))
-        (due-tree (z .tree) n c w (z .next) mk (z .stands)) (z .led) in
+        here (z .led) in
     let went = led-turn s (pick own words row) buf budget xs i t mem act l₀ l h₀ h p k₀ lt e (y .calls .1) (y .answers .1) begins in
     let inLog = subst (λ (z : List ℕ). Led (i + 1) l₀ z h₀ (set h i (answerCode (line t mem (dueIn s) act .answer))) p k₀
         (play v (leftTalk v budget xs (i + 1) (line t mem (dueIn s) act .target) (line t mem (dueIn s) act .mem) .answers))

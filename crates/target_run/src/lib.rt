@@ -4,16 +4,17 @@ ghost use mathlib.Core.List.{map};
 ghost use Prim.Native.Nat.{_<_};
 ghost use lib.ListN.{set, getD};
 ghost use Rattle.numbers.specs.Log.{answerOf};
-ghost use Rattle.calls.specs.Calls.{callTree, rowFor, leave};
-ghost use Rattle.target_run.specs.Talk.{lossOf, actOf, talk};
+ghost use Rattle.calls.specs.Calls.{callTree, rowFor};
+ghost use Rattle.target.specs.Line.{actOf};
+ghost use Rattle.target_run.specs.Talk.{talk};
 ghost use Rattle.target_run.specs.Over.{answerCode, RanOver};
 ghost use Rattle.target_run.specs.Turns.{Turns};
 ghost use Rattle.target_run.specs.OverLaws.{Drives};
-use calls::{EngineCall, Frame};
+use calls::EngineCall;
 use engine::{NextStep, State, StepAnswer};
 use engine_run::Ran;
 use numbers::CallEnding;
-use target::{Act, Loss, Target};
+use target::{Act, Target};
 use transport::{Answer, Remembered};
 
 // What a run leaves: the engine's report, and the target.
@@ -26,33 +27,6 @@ pub struct TargetRan {
 pub struct Turned {
     pub step: StepAnswer,
     pub target: Target,
-}
-
-// The error of a lost transport call by its number.
-fn loss_of(k: u32) -> Loss
-    ensures { λ r. ⌜ r ≡ lossOf k ⌝ }
-{
-    if k < 256 {
-        return Loss::Ack(k as u8);
-    }
-    if k == 256 {
-        return Loss::NotSupported;
-    }
-    Loss::Other
-}
-
-// What the line does, by its number.
-pub fn act_of(x: u32) -> Act
-    ensures { λ r. ⌜ r ≡ actOf x ⌝ }
-{
-    if x % 4 == 0 {
-        return Act::Deliver;
-    }
-    if x % 4 == 1 {
-        return Act::Wait;
-    }
-    let error = loss_of(x / 4);
-    Act::Lose { delivered: x % 4 == 2, error: error }
 }
 
 // An answer as a number.
@@ -110,29 +84,24 @@ fn drive(first: StepAnswer, budget: u32, acts: &[u32], before: Target, mem: &mut
                 if budget <= i {
                     return TargetRan { ran: Ran { count: i, ending: CallEnding { number: 11, value: 0 }, remembered: r }, target: t };
                 }
-                last = turn(a.state, i, act_of(memap::word_at(acts, i)), t, mem, row, words, buf, log, heard);
+                last = turn(a.state, i, target_line::act_of(memap::word_at(acts, i)), t, mem, row, words, buf, log, heard);
                 i += 1;
             }
         }
     }
 }
 
-// The frame that a call leaves in its row goes to the caller's words.
-fn leave_frame(f: Frame, row: &[u32; 64], words: &mut [u32])
-    ensures { λ _. ⌜ now (words .exit) ≡ leave f (now (row .entry)) (now (words .entry)) ⌝ }
-{
-    calls::keep_frame(f, row, words);
-}
-
-// A whole call over target and line under a budget. The line does as `acts` says, and delivers where they have ended. The log
-// gets each transport call's number and `heard` each answer's, as far as they reach.
-pub fn run(r: Remembered, c: EngineCall, budget: u32, acts: &[u32], t: Target, mem: &mut [u8], words: &mut [u32], buf: &mut [u8], log: &mut [u64], heard: &mut [u64]) -> TargetRan
-    ensures { λ x. ⌜ RanOver c (callTree c r (rowFor c (now (words .entry))) (now (words .entry)) (now (buf .entry))) (talk (callTree c r (rowFor c (now (words .entry))) (now (words .entry)) (now (buf .entry))) budget (map actOf (now (acts .entry))) t (now (mem .entry))) x (now (words .entry)) (now (words .exit)) (now (buf .exit)) (now (log .entry)) (now (log .exit)) (now (heard .entry)) (now (heard .exit)) (now (mem .exit)) ⌝ }
+// A whole call over target and line under a budget. The line does as `acts` says, and delivers where they have ended. Call 24 finds
+// its frame in `frame`; call 23 leaves its frame there if it succeeds. The log gets each transport call's number and `heard` each
+// answer's, as far as they reach.
+pub fn run(r: Remembered, c: EngineCall, budget: u32, acts: &[u32], t: Target, mem: &mut [u8], frame: &mut [u32; 8], words: &mut [u32], buf: &mut [u8], log: &mut [u64], heard: &mut [u64]) -> TargetRan
+    ensures { λ x. ⌜ RanOver c (callTree c r (rowFor c (now (frame .entry))) (now (words .entry)) (now (buf .entry))) (talk (callTree c r (rowFor c (now (frame .entry))) (now (words .entry)) (now (buf .entry))) budget (map actOf (now (acts .entry))) t (now (mem .entry))) x (now (frame .entry)) (now (words .entry)) (now (frame .exit)) (now (words .exit)) (now (buf .exit)) (now (log .entry)) (now (log .exit)) (now (heard .entry)) (now (heard .exit)) (now (mem .exit)) ⌝ }
 {
     let f = calls::frame_for(c);
-    let mut row = calls::row_for(f, words);
+    let before = *frame;
+    let mut row = calls::row_for(f, before);
     let a = engine::start(r, c, &mut row, words, buf);
     let x = drive(a, budget, acts, t, mem, &mut row, words, buf, log, heard);
-    leave_frame(f, &row, words);
+    *frame = calls::frame_left(f, x.ran.ending.number == 0, row, before);
     x
 }

@@ -11,9 +11,9 @@ begun-spec =
     tie.close (tie.spec
     (λ c κs. search needs) (λ c κs. search needs) (λ c κs. search needs) (λ c κs. search needs) (λ c. search needs) (λ c κs. search needs)
     (λ c κs. search needs) (λ c κs. search needs) (λ c. search needs)
-    (λ c. let started = c .before .before .before .before .before in let row = started .before .before .before in
+    (λ c. let started = c .before .before .before .before .before in let row = started .before .before .before .before in
       let known = row .before in let connect = known .before in let call = connect .before in let t = call .before .before .before .args in
       answers-as _ _ _ _ _ _ _ _ _ (c .before .kind-of .ensures) refl
-      (c .settled .ensures _ _ (starts (t .c) _ _ (t .s .state .remembered) _ (t .s .frame) _ (t .buf .now) _ _ _
+      (c .settled .ensures _ _ (starts (t .c) _ _ (t .s .state .remembered) _ (t .s .frame) _ _ (t .buf .now) _ _ _ _
       (call .engine-call .ensures) (connect .is-connect .ensures) (known .remembered-for .ensures) (row .row-of .ensures)
-        (started .start-over .ensures .0)))))
+        (started .start .ensures)))))

@@ -5,5 +5,5 @@ use Rattle.session.proofs.frame_ended.Tie as tie
 pub frame-ended-spec : {M : Type 1} → statement M
 frame-ended-spec =
     tie.close (tie.spec
-    (λ c. search needs) (λ c. search needs) (λ c κs. search needs) (λ c. simp (c .before .before .enum-told2 .given .1) (simp
-      (c .before .if1 .taken) (c .frame-of .ensures))) (λ c. search needs) (λ c. search needs) (λ c. search needs) (λ c. search needs))
+    (λ c. search needs) (λ c. search needs) (λ c κs. search needs) (λ c. search needs) (λ c. search needs)
+    (λ c. simp (c .before .enum-told2 .given .1) (c .frame-left .ensures)) (λ c. search needs))

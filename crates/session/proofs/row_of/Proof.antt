@@ -7,6 +7,5 @@ use Rattle.session.proofs.row_of.Tie as tie
 
 pub row-of-spec : {M : Type 1} → statement M
 row-of-spec =
-    tie.close (tie.spec
-    (λ c κs. search needs) (λ c. search needs) (λ c κs. search needs) (λ c. c .row-for .ensures
-      ∙ ap (λ (f : Frame). rowWith f (c .before .before .before .args .t2)) (c .before .before .frame-for .ensures)))
+    tie.close (tie.spec (λ c κs. search needs) (λ c κs. search needs)
+    (λ c. c .row-for .ensures ∙ ap (λ (f : Frame). rowWith f (c .before .before .args .frame)) (c .before .frame-for .ensures)))

@@ -1,6 +1,8 @@
 -- Nothing here looks into a field of the session: `is_open_now` asks `open`, and leaves the session as it is. `LookLaw` has it once
--- for all types.
+-- for all types; that the contract follows from what it gives is found by `search`.
 use mir.Val.{vbool}
+use borrow.Author.Needs.{needs}
+use contract.Monad.{fact-mono}
 use contract.Running.{givenOf, tables, tablesOf}
 use denote.Builtin.{bool}
 use denote.Memory.{pointee}
@@ -43,7 +45,9 @@ unfolding code.routine tablesOf
 is-open-now-spec 𝓤 H 𝓜 𝓖 𝓡 =
     entered 𝓤 H (tripleOf 𝓤 H (𝓖 .A) f.signature (f.spec 𝓤 H (𝓖 .A) (𝓜 .mem) (𝓡 .run)))
     (tables 𝓤 H 𝓜 𝓡 code.env .C) (tables 𝓤 H 𝓜 𝓡 code.env .Λ) #f code.function (code.unfolded 𝓤 H 𝓜 𝓡)
-    (LookLaw.meets t n (pointee (T.the-row .written)) #inner Fact 𝓤 H (𝓖 .A) (givenOf 𝓤 H 𝓜 𝓖)
-    (Law.struct-ruled T.the-type T′.the-laws T′.the-plain) n-laws (tablesOf 𝓤 H 𝓜 (tables 𝓤 H 𝓜 𝓡 code.env))
+    (LookLaw.meets-so t n (pointee (T.the-row .written)) #inner Fact 𝓤 H (𝓖 .A) (givenOf 𝓤 H 𝓜 𝓖)
+    (Law.struct-ruled T.the-type T′.the-laws T′.the-plain) n-laws
+    (λ κs a. f.clauses 𝓤 H (𝓖 .A) (𝓜 .mem) (𝓡 .run) κs a .ensures) (λ κs a g r ws. fact-mono 𝓤 _ _ (λ x. search needs))
+    (tablesOf 𝓤 H 𝓜 (tables 𝓤 H 𝓜 𝓡 code.env))
     (cited 𝓤 H (tripleOf 𝓤 H (𝓖 .A) inner.signature (inner.spec 𝓤 H (𝓖 .A) (𝓜 .mem) (𝓡 .run))) 𝓜 𝓡 code.env #inner inner-def.routine calls-inner
       (inner-thm.met 𝓤 H 𝓜 𝓖 𝓡)))

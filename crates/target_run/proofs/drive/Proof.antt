@@ -7,7 +7,8 @@ use mathlib.Core.Path.{_≡_, refl, sym, ap, _∙_}
 use native.Mathlib.Omega.{arith}
 use Rattle.transport.specs.Wire.{Wire}
 use Rattle.calls.specs.Calls.{pick}
-use Rattle.target_run.specs.Talk.{Talk, actOf}
+use Rattle.target_run.specs.Talk.{Talk}
+use Rattle.target.specs.Line.{actOf}
 use Rattle.target_run.specs.Comes.{Comes, comes-start}
 use Rattle.target_run.specs.Turns.{comes-turn, turned-other}
 use Rattle.target_run.specs.OverLaws.{comes-done, comes-spent}

@@ -12,4 +12,4 @@ turn-spec =
     (λ c. let step = c .before .before .before .before in let hear = step .before .before .before .before .before .before .before in
       let over = hear .before .before .before .before in let note = over .before .before .before .before in let due = note .before .before in
       turns _ _ _ _ _ _ _ _ _ _ _ _ _ _ _ _ _ _ _ (due .due .ensures) (note .note .ensures) (over .over-line .ensures) (hear .hear .ensures)
-        (step .step .ensures)))
+        (step .step .ensures .lent)))

@@ -1,7 +1,7 @@
 use borrow.Author.Tests.{eq-eqb, ne-eqb, lt-ltb, le-ltb}
 use borrow.Author.Needs.{needs}
-use Rattle.target_run.proofs.loss_of.Statement.{statement}
-use Rattle.target_run.proofs.loss_of.Tie as tie
+use Rattle.target_line.proofs.loss_of.Statement.{statement}
+use Rattle.target_line.proofs.loss_of.Tie as tie
 
 pub loss-of-spec : {M : Type 1} → statement M
 loss-of-spec = tie.close (tie.spec

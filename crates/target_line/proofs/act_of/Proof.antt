@@ -1,7 +1,7 @@
 use borrow.Author.Tests.{eq-eqb, ne-eqb}
 use borrow.Author.Needs.{needs}
-use Rattle.target_run.proofs.act_of.Statement.{statement}
-use Rattle.target_run.proofs.act_of.Tie as tie
+use Rattle.target_line.proofs.act_of.Statement.{statement}
+use Rattle.target_line.proofs.act_of.Tie as tie
 
 pub act-of-spec : {M : Type 1} → statement M
 act-of-spec = tie.close (tie.spec
