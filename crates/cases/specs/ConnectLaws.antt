@@ -1,5 +1,6 @@
 -- How call 3 goes over a target of the model while the line delivers: ten transport calls, and then polls until no read of
--- CTRL/STAT is owed. Serves the proofs only: the polls are one induction, over the polls left and the reads owed.
+-- CTRL/STAT is owed. Serves the proofs only: the polls are one induction, over the polls left and the reads owed. `connects` and
+-- `times-out` say it for every d.
 use Prim.Native.Nat.{ℕ, zero, suc, _+_, _-_, _≤_, _<_}
 use mathlib.Core.Bool.{Bool, true, false, _||_, _&&_}
 use mathlib.Core.List.{List, []}
@@ -8,14 +9,14 @@ use native.Mathlib.Omega.{arith}
 use native.Mathlib.Nat.{le-of-suc-le-suc, not-suc-le-zero}
 use lib.Dec.{eqb}
 use borrow.Author.Tests.{ne-eqb}
-use lib.ListN.{length}
-use Rattle.transport.specs.Wire.{Wire, Memory, ask, play, Ending, ended}
+use Rattle.transport.specs.Wire.{Wire, Memory, memoryOf, ask, play, Ending, ended}
 use Rattle.transport.specs.Transfer.{transfer, tries, raw}
 use Rattle.transport.specs.declared.Call.{Call}
 use Rattle.transport.specs.declared.Call.the-variants as T
 use Rattle.transport.specs.declared.Answer.{Answer}
 use Rattle.transport.specs.declared.Answer.the-variants.{Good}
 use Rattle.transport.specs.declared.Outcome.the-variants.{Value, Failed}
+use Rattle.transport.specs.declared.Remembered.{Remembered}
 use Rattle.transport.specs.declared.ArmError.the-variants as E
 use Rattle.memap.specs.Ops.{perform}
 use Rattle.jobs.specs.declared.Change.the-variants as C
@@ -32,28 +33,28 @@ use Rattle.target.specs.declared.DpRegister.the-variants as D
 use Rattle.target.specs.declared.Target.{Target}
 use Rattle.target.specs.declared.Act.the-variants.{Deliver}
 use Rattle.target_run.specs.Talk.{talk}
+use Rattle.cases.specs.Given.{Ends, connecting, Ready, row}
 
--- how the tree w ends over the target t, and after how many transport calls
-pub record Ends (w : Wire) (n : ℕ) (t : Target) (mem : List ℕ) (e : Ending) (count : ℕ) : Type 0 where
-  pub ending : play w (talk w n [] t mem .answers) .ending ≡ e
-  pub calls : length (play w (talk w n [] t mem .answers) .calls) ≡ count
+-- how the tree w ends over the target t under the budget n
+record Over (w : Wire) (n : ℕ) (t : Target) (mem : List ℕ) (e : Ending) (count : ℕ) : Type 0 where
+  ends : Ends (play w (talk w n [] t mem .answers)) e count
 
 -- one transport call, of which x comes
 ends-ask : (m : Memory) (c : Call) (f : Answer → Wire) (n : ℕ) (t : Target) (mem : List ℕ) (e : Ending) (k : ℕ) (x : Heard) → line t mem c Deliver ≡ x
-  → Ends (f (x .answer)) n (x .target) (x .mem) e k → Ends (ask m c f) (suc n) t mem e (suc k)
+  → Over (f (x .answer)) n (x .target) (x .mem) e k → Over (ask m c f) (suc n) t mem e (suc k)
 unfolding play talk
 ends-ask m c f n t mem e k x h y =
-    let z = subst (λ (x : Heard). Ends (f (x .answer)) n (x .target) (x .mem) e k) (sym h) y in record { ending = z .ending; calls = ap suc
-        (z .calls) }
+    let z = subst (λ (x : Heard). Over (f (x .answer)) n (x .target) (x .mem) e k) (sym h) y in
+    record { ends = record { ending = z .ends .ending; calls = ap suc (z .ends .calls) } }
 
 -- the target once power-up was asked for, with n reads of CTRL/STAT owed
-abbrev pub asked : Target → ℕ → Target
+abbrev asked : Target → ℕ → Target
 asked t n =
     record { dpidr = t .dpidr; d = t .d; width = t .width; base = t .base; select = 0; cdbgpwrupreq = true; csyspwrupreq = true; owed = n; sticky =
         false; rdbuff = t .rdbuff; csw = t .csw; tar = t .tar }
 
 -- a connect that has at most k polls left, and what follows a poll
-abbrev pub polling : ℕ → ℕ → Memory → Wire
+abbrev polling : ℕ → ℕ → Memory → Wire
 polling k v m = exec (attempt (pollAcks k) (orFail (λ (_ : ℕ). return v))) m
 
 abbrev polled : Bool → ℕ → ℕ → Memory → Wire
@@ -67,28 +68,29 @@ no-acks t n = ap (λ (b : Bool). bothAcks (0x10000000 + 0x40000000 + pick b 0xA0
 
 -- a poll that shows no acks yet
 ends-poll : (k n v b : ℕ) (m : Memory) (t : Target) (mem : List ℕ) (e : Ending) (count : ℕ)
-  → Ends (polling k v m) b (asked t n) mem e count → Ends (polling (suc k) v m) (suc b) (asked t (suc n)) mem e (suc count)
+  → Over (polling k v m) b (asked t n) mem e count → Over (polling (suc k) v m) (suc b) (asked t (suc n)) mem e (suc count)
 unfolding pollAcks exec perform transfer tries arrives
 ends-poll k n v b m t mem e count h =
     ends-ask m _ _ b (asked t (suc n)) mem e count _ refl
-    (subst (λ (z : Bool). Ends (polled z k v m) b (asked t (suc n - 1)) mem e count) (sym (no-acks t n))
-    (subst (λ (j : ℕ). Ends (polling k v m) b (asked t j) mem e count) (less n) h))
+    (subst (λ (z : Bool). Over (polled z k v m) b (asked t (suc n - 1)) mem e count) (sym (no-acks t n))
+    (subst (λ (j : ℕ). Over (polling k v m) b (asked t j) mem e count) (less n) h))
 
 -- fewer reads owed than polls: the acks come in time
-pub polls-end : (k n v b : ℕ) (m : Memory) (t : Target) (mem : List ℕ) → n < k → n < b
-    → Ends (polling k v m) b (asked t n) mem (ended (Value v)) (suc n)
+polls-end : (k n v b : ℕ) (m : Memory) (t : Target) (mem : List ℕ) → n < k → n < b
+    → Over (polling k v m) b (asked t n) mem (ended (Value v)) (suc n)
 unfolding pollAcks exec perform transfer tries arrives play talk
 polls-end zero n v b m t mem h g = absurd (not-suc-le-zero h)
 polls-end (suc k) n v zero m t mem h g = absurd (not-suc-le-zero g)
-polls-end (suc k) zero v (suc b) m t mem h g = ends-ask m _ _ b (asked t 0) mem (ended (Value v)) 0 _ refl (record { ending = refl; calls = refl })
+polls-end (suc k) zero v (suc b) m t mem h g =
+    ends-ask m _ _ b (asked t 0) mem (ended (Value v)) 0 _ refl (record { ends = record { ending = refl; calls = refl } })
 polls-end (suc k) (suc n) v (suc b) m t mem h g =
     ends-poll k n v b m t mem (ended (Value v)) (suc n) (polls-end k n v b m t mem (le-of-suc-le-suc h) (le-of-suc-le-suc g))
 
 -- as many owed as polls, or more
-pub polls-fail : (k n v b : ℕ) (m : Memory) (t : Target) (mem : List ℕ) → k ≤ n → k ≤ b
-    → Ends (polling k v m) b (asked t n) mem (ended (Failed E.PowerUpTimeout)) k
+polls-fail : (k n v b : ℕ) (m : Memory) (t : Target) (mem : List ℕ) → k ≤ n → k ≤ b
+    → Over (polling k v m) b (asked t n) mem (ended (Failed E.PowerUpTimeout)) k
 unfolding pollAcks exec play talk
-polls-fail zero n v b m t mem h g = record { ending = refl; calls = refl }
+polls-fail zero n v b m t mem h g = record { ends = record { ending = refl; calls = refl } }
 polls-fail (suc k) zero v b m t mem h g = absurd (not-suc-le-zero h)
 polls-fail (suc k) (suc n) v zero m t mem h g = absurd (not-suc-le-zero g)
 polls-fail (suc k) (suc n) v (suc b) m t mem h g =
@@ -125,7 +127,7 @@ power-asked t mem h = ap (λ (b : Bool). record { answer = Good 0; target = aske
 
 -- what every connect does once DPIDR is good
 set-up-ends : (v b : ℕ) (m : Memory) (t : Target) (mem : List ℕ) (e : Ending) (count : ℕ) → powered t ≡ false
-  → ((m₂ : Memory) → Ends (polling 1024 v m₂) b (asked t (t .d)) mem e count) → Ends (exec (setUp C.New v) m) (suc (suc (suc b))) t mem e (suc (suc
+  → ((m₂ : Memory) → Over (polling 1024 v m₂) b (asked t (t .d)) mem e count) → Over (exec (setUp C.New v) m) (suc (suc (suc b))) t mem e (suc (suc
     (suc count)))
 unfolding exec perform transfer tries arrives
 set-up-ends v b m t mem e count h k =
@@ -141,23 +143,37 @@ accepting none v m = exec (attempt (cond none (fail E.NoTarget) (return v)) (orF
 
 connect-ends : (b : ℕ) (m : Memory) (t : Target) (mem : List ℕ) (e : Ending) (count : ℕ)
   → (t .dpidr ≡ 0 → ⊥) → (t .dpidr ≡ 0xFFFFFFFF → ⊥) → powered t ≡ false
-  → ((m₂ : Memory) → Ends (polling 1024 (t .dpidr) m₂) b (asked t (t .d)) mem e count)
-  → Ends (exec (connectJob K.ConnectSwd) m) (suc (suc (suc (suc (suc (suc (suc (suc (suc (suc b)))))))))) t mem e (suc (suc (suc (suc (suc (suc (suc
+  → ((m₂ : Memory) → Over (polling 1024 (t .dpidr) m₂) b (asked t (t .d)) mem e count)
+  → Over (exec (connectJob K.ConnectSwd) m) (suc (suc (suc (suc (suc (suc (suc (suc (suc (suc b)))))))))) t mem e (suc (suc (suc (suc (suc (suc (suc
     (suc (suc (suc count))))))))))
 unfolding connectJob exec perform raw transfer tries
 connect-ends b m t mem e count h g p k =
     ends-ask _ _ _ _ t mem e _ _ refl (ends-ask _ _ _ _ t mem e _ _ refl (ends-ask _ _ _ _ t mem e _ _ refl (ends-ask _ _ _ _ t mem e _ _ refl
     (ends-ask _ _ _ _ t mem e _ _ refl (ends-ask _ _ _ _ t mem e _ _ refl (ends-ask _ _ _ _ t mem e _ _ (dpidr-read t mem)
-    (subst (λ (z : Bool). Ends (accepting z (t .dpidr) m) (suc (suc (suc b))) t mem e (suc (suc (suc count)))) (sym (good-dpidr (t .dpidr) h g))
+    (subst (λ (z : Bool). Over (accepting z (t .dpidr) m) (suc (suc (suc b))) t mem e (suc (suc (suc count)))) (sym (good-dpidr (t .dpidr) h g))
     (set-up-ends (t .dpidr) b m t mem e count p k))))))))
 
 -- under a budget
-pub call-ends : (budget : ℕ) (m : Memory) (t : Target) (mem : List ℕ) (e : Ending) (count : ℕ)
-  → (t .dpidr ≡ 0 → ⊥) → (t .dpidr ≡ 0xFFFFFFFF → ⊥) → powered t ≡ false → 10 ≤ budget
-  → ((m₂ : Memory) → Ends (polling 1024 (t .dpidr) m₂) (budget - 10) (asked t (t .d)) mem e count)
-  → Ends (exec (connectJob K.ConnectSwd) m) budget t mem e (10 + count)
-call-ends budget m t mem e count h g p le k =
+call-ends : (budget : ℕ) (m : Memory) (t : Target) (mem : List ℕ) (e : Ending) (count : ℕ) → Ready t → 10 ≤ budget
+  → ((m₂ : Memory) → Over (polling 1024 (t .dpidr) m₂) (budget - 10) (asked t (t .d)) mem e count)
+  → Over (exec (connectJob K.ConnectSwd) m) budget t mem e (10 + count)
+call-ends budget m t mem e count h le k =
     let n : suc (suc (suc (suc (suc (suc (suc (suc (suc (suc (budget - 10)))))))))) ≡ budget = omega arith in
     let c : suc (suc (suc (suc (suc (suc (suc (suc (suc (suc count))))))))) ≡ 10 + count = omega arith in
-    let x = connect-ends (budget - 10) m t mem e count h g p k in
-    subst (λ (n : ℕ). Ends (exec (connectJob K.ConnectSwd) m) n t mem e (10 + count)) n (record { ending = x .ending; calls = x .calls ∙ c })
+    let x = connect-ends (budget - 10) m t mem e count (h .some) (h .driven) (h .clear) k .ends in
+    subst (λ (n : ℕ). Over (exec (connectJob K.ConnectSwd) m) n t mem e (10 + count)) n
+    (record { ends = record { ending = x .ending; calls = x .calls ∙ c } })
+
+module _ (r : Remembered) (words buf : List ℕ) (budget : ℕ) (t : Target) (mem : List ℕ) (h : Ready t) where
+  -- d below 1024: connected, after ten transport calls and d + 1 polls
+  pub connects : t .d < 1024 → 11 + t .d ≤ budget → Ends (connecting r words buf budget t mem) (ended (Value (t .dpidr))) (11 + t .d)
+  connects lt le =
+      let x = call-ends budget (memoryOf r row buf) t mem (ended (Value (t .dpidr))) (suc (t .d)) h (omega arith)
+          (λ m. polls-end 1024 (t .d) (t .dpidr) (budget - 10) m t mem lt (omega arith)) .ends in
+      record { ending = x .ending; calls = omega (arith, x .calls) }
+
+  -- d at least 1024: PowerUpTimeout, after ten transport calls and 1024 polls
+  pub times-out : 1024 ≤ t .d → 1034 ≤ budget → Ends (connecting r words buf budget t mem) (ended (Failed E.PowerUpTimeout)) 1034
+  times-out lt le =
+      call-ends budget (memoryOf r row buf) t mem (ended (Failed E.PowerUpTimeout)) 1024 h (omega arith)
+      (λ m. polls-fail 1024 (t .d) (t .dpidr) (budget - 10) m t mem lt (omega arith)) .ends

@@ -1,4 +1,3 @@
-pub mod Table
-pub mod Listing
+pub mod Given
 pub mod ConnectLaws
-pub mod TargetCases
+pub mod Table

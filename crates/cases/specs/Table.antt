@@ -1,23 +1,21 @@
--- The cases of 01 that are marked P, each a theorem about the definitions; most hold for every value read.
-use Prim.Native.Nat.{ℕ, zero, suc, _+_, _≤_}
-use mathlib.Core.Bool.{Bool, true, false}
-use mathlib.Core.List.{List, [], _∷_, _++_}
+-- 01's cases marked P as one table, proved of the definitions: a field a case, in 01's order. `Given.antt` has the calls, answers
+-- and targets that it speaks of, `ConnectLaws.antt` the proof of the connects. Each holds for every value read, the connects for
+-- every target that meets 01's conditions, sticky or not, at every budget that suffices.
+use Prim.Native.Nat.{ℕ, _≤_}
+use mathlib.Core.List.{List, [], _∷_}
 use mathlib.Core.Path.{_≡_, refl}
 use native.Mathlib.Omega.{arith}
-use lib.ListN.{length, replicate}
-use Rattle.transport.specs.Wire.{play, Played, ended}
+use lib.ListN.{replicate}
+use Rattle.transport.specs.Wire.{memoryOf, play, ended}
 use Rattle.transport.specs.Transfer.{transfer, tries, raw}
 use Rattle.transport.specs.declared.Remembered.{Remembered}
-use Rattle.transport.specs.declared.Call.{Call}
 use Rattle.transport.specs.declared.Call.the-variants as C
-use Rattle.transport.specs.declared.Answer.{Answer}
-use Rattle.transport.specs.declared.Answer.the-variants.{Good, SwdError}
+use Rattle.transport.specs.declared.Answer.the-variants.{Good}
 use Rattle.transport.specs.declared.Outcome.the-variants.{Value, Failed}
 use Rattle.transport.specs.declared.ArmError.the-variants as E
 use Rattle.memap.specs.Words.{pull, push}
 use Rattle.memap.specs.Ops.{perform}
-use Rattle.memap.specs.Flight.{memoryOf}
-use Rattle.jobs.specs.Bytes.{storeWords, storePart, loadWords, patchBytes}
+use Rattle.jobs.specs.Bytes.{storeWords, storePart, patchBytes}
 use Rattle.jobs.specs.Change.{fresh}
 use Rattle.jobs.specs.Job.{exec}
 use Rattle.connect.specs.Connect.{ones, parity}
@@ -27,89 +25,75 @@ use Rattle.fpb.specs.Breakpoint.{fpbCompValue}
 use Rattle.fpb.specs.declared.CompValue.the-variants as P
 use Rattle.calls.specs.Calls.{callTree}
 use Rattle.calls.specs.declared.EngineCall.the-variants as N
+use Rattle.listing.specs.Text.{digits, hex, together}
+use Rattle.listing.specs.Listing.{callLines}
+use Rattle.request.specs.BigEndian as BigEndian
+use Rattle.request.specs.Request.{requestOf, wordsOf, bytesOf}
+use Rattle.script.specs.Script.{goodAnswers, wellFormed}
+use Rattle.script.specs.Output.{performed, requestText, outputOf}
+use Rattle.target.specs.declared.Target.{Target}
+use Rattle.cases.specs.Given.{Ends, script, listing, known, row, oneTransfer, afterWaits, sixBytes, oneByte, connecting, Ready}
+use Rattle.cases.specs.ConnectLaws.{connects, times-out}
 
--- SELECT 0 and CSW remembered
-abbrev pub known : Remembered
-known = record { select = 0; csw = true; apsel = 0 }
+pub record Table : Type 0 where
+  -- 1. the listing above: what `dapscript` prints
+  pub listed : outputOf script ≡ listing
+  -- 2. 64 WAITs then Ok: Ok, 65 calls
+  pub waits-64 : (v : ℕ) → Ends (oneTransfer (afterWaits 64 (Good v ∷ []))) (ended (Value 0)) 65
+  -- 3. 65 WAITs: Wait, no ABORT, though there is budget for one
+  pub waits-65 : (v : ℕ)
+    → (oneTransfer (afterWaits 65 (Good v ∷ [])) .ending ≡ ended (Failed E.Wait))
+    × (oneTransfer (afterWaits 65 (Good v ∷ [])) .calls ≡ replicate 65 (C.Transfer 1 7))
+  -- 4. call 3, DPIDR good, requests clear, line delivering, d = 1023: connected
+  pub d-1023 : (r : Remembered) (words buf : List ℕ) (budget : ℕ) (t : Target) (mem : List ℕ) → Ready t → t .d ≡ 1023 → 1034 ≤ budget
+    → Ends (connecting r words buf budget t mem) (ended (Value (t .dpidr))) 1034
+  -- 5. the same, d = 1024: PowerUpTimeout
+  pub d-1024 : (r : Remembered) (words buf : List ℕ) (budget : ℕ) (t : Target) (mem : List ℕ) → Ready t → t .d ≡ 1024 → 1034 ≤ budget
+    → Ends (connecting r words buf budget t mem) (ended (Failed E.PowerUpTimeout)) 1034
+  -- 6. run at 0x200003FC: 1, however many words are left
+  pub run-at-end : (words : ℕ) → 1 ≤ words → runWords 0x200003FC words ≡ 1
+  -- 7. run at 0x20000400, 300 left: 64
+  pub run-whole : runWords 0x20000400 300 ≡ 64
+  -- 8. 6 bytes read at 0x20000003, CSW known, SELECT 0 remembered: 9 calls
+  pub six-bytes : (a b c d e f g h i : ℕ)
+    → Ends (sixBytes (Good a ∷ Good b ∷ Good c ∷ Good d ∷ Good e ∷ Good f ∷ Good g ∷ Good h ∷ Good i ∷ [])) (ended (Value 0)) 9
+  -- 9. 1 byte written at 0x20000001: 6 calls
+  pub one-byte : (x a b c d e f : ℕ) → Ends (oneByte x (Good a ∷ Good b ∷ Good c ∷ Good d ∷ Good e ∷ Good f ∷ [])) (ended (Value 0)) 6
+  -- 10. breakpoint 0x102, revision 0: 0x80000101
+  pub breakpoint-v0 : fpbCompValue 0x102 0 ≡ P.Some 0x80000101
+  -- 11. breakpoint 0x20000101, revision 1: 0x20000101
+  pub breakpoint-v1 : fpbCompValue 0x20000101 1 ≡ P.Some 0x20000101
+  -- 12. TARGETSEL 0x01002927: parity 0
+  pub parity-even : parity 0x01002927 ≡ 0
+  -- 13. TARGETSEL 0x11002927: parity 1
+  pub parity-odd : parity 0x11002927 ≡ 1
 
-abbrev pub row : List ℕ
-row = replicate 64 0
+pub table : Table
+unfolding outputOf wellFormed requestOf wordsOf bytesOf goodAnswers BigEndian.row performed requestText digits hex together callLines play tries
+    transfer raw exec memoryJob memFrom perform pull push storeWords storePart patchBytes ones
+table = record {
+  listed = refl;
+  waits-64 = λ v. record { ending = refl; calls = refl };
+  waits-65 = λ v. (refl, refl);
+  d-1023 = λ r words buf budget t mem h e le.
+      let x = connects r words buf budget t mem h (omega (arith, e)) (omega (arith, e)) in
+      record { ending = x .ending; calls = omega (arith, x .calls, e) };
+  d-1024 = λ r words buf budget t mem h e le. times-out r words buf budget t mem h (omega (arith, e)) le;
+  run-at-end = λ words h. omega arith;
+  run-whole = refl;
+  six-bytes = λ a b c d e f g h i. record { ending = refl; calls = refl };
+  one-byte = λ x a b c d e f. record { ending = refl; calls = refl };
+  breakpoint-v0 = refl;
+  breakpoint-v1 = refl;
+  parity-even = refl;
+  parity-odd = refl }
 
--- call 9 at an address on a new engine, as 01's listing has it
-pub listing : (addr a b c d v : ℕ)
+-- the listing's call at every address, for every value read
+pub listed-any : (addr a b c d v : ℕ)
   → play (callTree (N.Memory (M.ReadWord addr)) fresh row [] []) (Good a ∷ Good b ∷ Good c ∷ Good d ∷ Good v ∷ [])
   ≡ record {
       calls = C.Transfer 8 0 ∷ C.Transfer 1 0x23000012 ∷ C.Transfer 5 addr ∷ C.Transfer 0xF 0 ∷ C.Transfer 0xE 0 ∷ [];
       memory = memoryOf known row [];
       ending = ended (Value v) }
 unfolding play exec memoryJob perform transfer tries
-listing addr a b c d v = refl
-
--- a transfer, here the read of the word's address register: n WAITs and then an answer
-abbrev pub afterWaits : ℕ → List Answer → List Answer
-afterWaits zero rest = rest
-afterWaits (suc n) rest = SwdError 2 ∷ afterWaits n rest
-
-abbrev pub oneTransfer : List Answer → Played
-oneTransfer answers = play (callTree (N.Memory (M.ApRegWrite 0 7)) known row [] []) answers
-
--- 64 WAITs and then Ok: Ok, 65 calls
-pub waits-64 : (v : ℕ) → (oneTransfer (afterWaits 64 (Good v ∷ [])) .ending ≡ ended (Value 0))
-    × (length (oneTransfer (afterWaits 64 (Good v ∷ [])) .calls) ≡ 65)
-unfolding play exec memoryJob perform transfer tries
-waits-64 v = (refl, refl)
-
--- 65 WAITs: Wait; 65 times the transfer, and no ABORT, though there is budget for one
-pub waits-65 : (v : ℕ)
-  → (oneTransfer (afterWaits 65 (Good v ∷ [])) .ending ≡ ended (Failed E.Wait))
-  × (oneTransfer (afterWaits 65 (Good v ∷ [])) .calls ≡ replicate 65 (C.Transfer 1 7))
-unfolding play exec memoryJob perform transfer tries
-waits-65 v = (refl, refl)
-
--- the run at 0x200003FC is of one word, however many are left
-pub run-at-end : (words : ℕ) → 1 ≤ words → runWords 0x200003FC words ≡ 1
-run-at-end words h = omega arith
-
-pub run-whole : runWords 0x20000400 300 ≡ 64
-run-whole = refl
-
--- 6 bytes at 0x20000003: a partial word, a run of one, a partial word: 9 calls
-pub six-bytes : (a b c d e f g h i : ℕ)
-  → length (play (callTree (N.Memory (M.ReadMem 0x20000003)) known row [] (replicate 6 0))
-      (Good a ∷ Good b ∷ Good c ∷ Good d ∷ Good e ∷ Good f ∷ Good g ∷ Good h ∷ Good i ∷ []) .calls) ≡ 9
-unfolding play exec memoryJob memFrom perform transfer tries pull storeWords storePart
-six-bytes a b c d e f g h i = refl
-
--- and the call has ended by then
-pub six-bytes-end : (a b c d e f g h i : ℕ)
-  → play (callTree (N.Memory (M.ReadMem 0x20000003)) known row [] (replicate 6 0))
-      (Good a ∷ Good b ∷ Good c ∷ Good d ∷ Good e ∷ Good f ∷ Good g ∷ Good h ∷ Good i ∷ []) .ending ≡ ended (Value 0)
-unfolding play exec memoryJob memFrom perform transfer tries pull storeWords storePart
-six-bytes-end a b c d e f g h i = refl
-
--- 1 byte written at 0x20000001: the word is read, changed and written back: 6 calls
-abbrev pub oneByte : ℕ → ℕ → ℕ → ℕ → ℕ → ℕ → ℕ → Played
-oneByte x a b c d e f =
-    play (callTree (N.Memory (M.WriteMem 0x20000001)) known row [] (x ∷ []))
-    (Good a ∷ Good b ∷ Good c ∷ Good d ∷ Good e ∷ Good f ∷ [])
-
-pub one-byte : (x a b c d e f : ℕ) → (length (oneByte x a b c d e f .calls) ≡ 6) × (oneByte x a b c d e f .ending ≡ ended (Value 0))
-unfolding play exec memoryJob memFrom perform transfer tries push patchBytes
-one-byte x a b c d e f = (refl, refl)
-
--- what a comparator holds for a breakpoint: 0x102, revision 0
-pub breakpoint-v0 : fpbCompValue 0x102 0 ≡ P.Some 0x80000101
-breakpoint-v0 = refl
-
--- 0x20000101, revision 1
-pub breakpoint-v1 : fpbCompValue 0x20000101 1 ≡ P.Some 0x20000101
-breakpoint-v1 = refl
-
--- TARGETSEL's parity
-pub parity-even : parity 0x01002927 ≡ 0
-unfolding ones
-parity-even = refl
-
-pub parity-odd : parity 0x11002927 ≡ 1
-unfolding ones
-parity-odd = refl
+listed-any addr a b c d v = refl

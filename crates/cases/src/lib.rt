@@ -1,4 +1,4 @@
-// The cases of 01 that are marked P, proved of the definitions in specs/Table.antt and TargetCases.antt. This function only makes it a crate.
+// The cases of 01 that are marked P, one table in specs/Table.antt, proved of the definitions. This function only makes it a crate.
 ghost use mathlib.Core.Path.{_≡_};
 
 // How many tries a transfer has.
