@@ -2,6 +2,7 @@
 # Compares the port with the unchanged Rust on N fresh scripts, byte by byte.
 # Usage: tools/compare.sh N [SEED]
 # DAPSCRIPT names another program, ARM_DEBUG_SRC another folder of the Rust.
+# Exit status: 0 all agree; 77 nothing was compared, as rustc or the source is not at hand; any other, some differ or it broke.
 set -eu
 calls=1-35
 count=${1:?usage: tools/compare.sh N [SEED]}
@@ -11,14 +12,12 @@ src=${ARM_DEBUG_SRC:-../shared/docs/src}
 port=${DAPSCRIPT:-target/bin/dapscript}
 out=target/compare
 
-if ! command -v rustc >/dev/null; then
-    echo "no rustc: the live comparison is skipped"
-    exit 0
-fi
-if ! [ -f "$src/arm-debug/src/lib.rs" ]; then
-    echo "no Rust source in $src: the live comparison is skipped"
-    exit 0
-fi
+skip() {
+    echo "the comparison with the Rust was skipped: $1"
+    exit 77
+}
+command -v rustc >/dev/null || skip "no rustc"
+[ -f "$src/arm-debug/src/lib.rs" ] || skip "no arm-debug/src/lib.rs in $src"
 if ! [ -x "$port" ]; then
     echo "no program $port to compare" >&2
     exit 1

@@ -1,13 +1,15 @@
 #!/bin/sh
-# All tests: the Rattle gate (every crate proved, every must-fail edit refused, every program's output as stored), then
-# fresh scripts compared with the unchanged Rust where rustc and its source are at hand.
+# All tests: the Rattle gate (every crate proved, every must-fail edit refused, every program's output as stored), `dapscript` on
+# the README's script and on one that is a byte too long, then fresh scripts compared with the unchanged Rust.
+# Where rustc or its source is not at hand, a line says that the comparison was skipped; with CI=true it counts as failed.
 # The last line is 'N passed, 0 failed', and the exit status is 0 only then.
 set -u
 cd "$(dirname "$0")/.."
-log=$(mktemp)
-trap 'rm -f "$log"' EXIT
-# rt waits for all that it started at a time before it starts the next: with four at a time no core of two stands idle for long
-export RT_JOBS="${RT_JOBS:-4}"
+room=$(mktemp -d)
+trap 'rm -rf "$room"' EXIT
+log=$room/log
+# rt waits for all that it started at a time before it starts the next: with six at a time no core of two stands idle for long
+export RT_JOBS="${RT_JOBS:-6}"
 rt ci 2>&1 | tee "$log"
 last=$(tail -n 1 "$log")
 passed=$(echo "$last" | sed -n 's/^\([0-9]*\) passed, [0-9]* failed$/\1/p')
@@ -16,11 +18,36 @@ if [ -z "$passed" ]; then
     echo "0 passed, 1 failed"
     exit 1
 fi
-if tools/compare.sh 12000 >"$log" 2>&1; then
-    cat "$log"
-    if grep -q ' agree, 0 differ$' "$log"; then passed=$((passed + 1)); fi
-else
-    cat "$log"
+
+# One test: `dapscript` prints exactly this text for the script on standard input.
+prints() { # WHAT TEXT
+    target/bin/dapscript >"$room/printed"
+    if printf '%s\n' "$2" | cmp "$room/printed" -; then
+        echo "dapscript prints what it must for $1"
+        passed=$((passed + 1))
+    else
+        echo "dapscript does NOT print what it must for $1"
+        failed=$((failed + 1))
+    fi
+}
+prints "the README's script" "1 T 8 00000000
+2 T 1 23000012
+3 T 5 20000000
+4 T F 00000000
+5 T E 00000000
+0 12345678" <examples/read_word.script
+tools/long.sh 65537 >"$room/script"
+prints "a script of 65,537 bytes" "13 00000000" <"$room/script"
+
+tools/compare.sh 8000 >"$log" 2>&1
+status=$?
+cat "$log"
+if [ "$status" -eq 0 ] && grep -q ' agree, 0 differ$' "$log"; then
+    passed=$((passed + 1))
+elif [ "$status" -ne 77 ]; then
+    failed=$((failed + 1))
+elif [ "${CI:-}" = true ]; then
+    echo "with CI=true a comparison that was skipped counts as failed"
     failed=$((failed + 1))
 fi
 echo "$passed passed, $failed failed"

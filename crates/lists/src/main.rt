@@ -7,7 +7,8 @@ use core::{CoreCall, Function};
 use fpb::FpbCall;
 use memory::MemoryCall;
 use nrf::NrfCall;
-use numbers::CallEnding;
+use engine_run::Ran;
+use numbers::{CallEnding, TransportCall};
 use transport::{Call, Remembered};
 
 // As many transport calls are printed; of a longer call only their number.
@@ -32,9 +33,9 @@ fn next_byte() -> u8 {
 fn next_half() -> u32
     ensures { λ r. ⌜ r < 65536 ⌝ }
 {
-    let a = wide(next_byte());
-    let b = wide(next_byte());
-    0x100 * a + b
+    let mut b = [0u8; 2];
+    io::read_full(0, &mut b);
+    0x100 * wide(b[0]) + wide(b[1])
 }
 
 fn next_word() -> u32 {
@@ -43,89 +44,100 @@ fn next_word() -> u32 {
     0x10000 * a + b
 }
 
-// Calls 1 to 5.
-fn connect_call(number: u8, a: &[u32; 8]) -> ConnectCall {
+// Calls 1 to 5, with the first argument.
+fn connect_call(number: u8, w: u32) -> ConnectCall {
     match number {
-        1 => ConnectCall::ConnectMultidrop(a[0]),
+        1 => ConnectCall::ConnectMultidrop(w),
         2 => ConnectCall::ProbeSwd,
         3 => ConnectCall::ConnectSwd,
-        4 => ConnectCall::ResetPulse(a[0]),
-        _ => ConnectCall::Reselect(a[0]),
+        4 => ConnectCall::ResetPulse(w),
+        _ => ConnectCall::Reselect(w),
     }
 }
 
-// Calls 6 to 14.
-fn memory_call(number: u8, a: &[u32; 8]) -> MemoryCall {
+// Calls 6 to 14, with the first two; b is the first as a byte.
+fn memory_call(number: u8, b: u8, w: u32, v: u32) -> MemoryCall {
     match number {
-        6 => MemoryCall::SetApsel((a[0] % 256) as u8),
-        7 => MemoryCall::ApRegRead((a[0] % 256) as u8),
-        8 => MemoryCall::ApRegWrite((a[0] % 256) as u8, a[1]),
-        9 => MemoryCall::ReadWord(a[0]),
-        10 => MemoryCall::WriteWord(a[0], a[1]),
-        11 => MemoryCall::ReadWords(a[0]),
-        12 => MemoryCall::WriteWords(a[0]),
-        13 => MemoryCall::ReadMem(a[0]),
-        _ => MemoryCall::WriteMem(a[0]),
+        6 => MemoryCall::SetApsel(b),
+        7 => MemoryCall::ApRegRead(b),
+        8 => MemoryCall::ApRegWrite(b, v),
+        9 => MemoryCall::ReadWord(w),
+        10 => MemoryCall::WriteWord(w, v),
+        11 => MemoryCall::ReadWords(w),
+        12 => MemoryCall::WriteWords(w),
+        13 => MemoryCall::ReadMem(w),
+        _ => MemoryCall::WriteMem(w),
     }
 }
 
-fn function(a: &[u32; 8]) -> Function {
-    Function { fn_addr: a[0], a0: a[1], a1: a[2], a2: a[3], a3: a[4], sp: a[5], trampoline: a[6] }
-}
-
-// Calls 15 to 25.
-fn core_call(number: u8, a: &[u32; 8]) -> CoreCall {
+// Calls 15 to 22, and 24.
+fn core_call(number: u8, b: u8, w: u32, v: u32) -> CoreCall {
     match number {
         15 => CoreCall::DebugEnable,
         16 => CoreCall::Halt,
         17 => CoreCall::Resume,
         18 => CoreCall::Step,
         19 => CoreCall::IsHalted,
-        20 => CoreCall::ReadCoreReg((a[0] % 256) as u8),
-        21 => CoreCall::WriteCoreReg((a[0] % 256) as u8, a[1]),
-        22 => CoreCall::RomFuncLookup((a[0] % 256) as u8, (a[1] % 256) as u8),
-        23 => CoreCall::StartFunction(function(a)),
-        24 => CoreCall::FinishFunction(a[0]),
-        _ => CoreCall::CallFunction(function(a), a[7]),
+        20 => CoreCall::ReadCoreReg(b),
+        21 => CoreCall::WriteCoreReg(b, v),
+        22 => CoreCall::RomFuncLookup(b, (v % 256) as u8),
+        _ => CoreCall::FinishFunction(w),
     }
 }
 
+// Calls 23 and 25.
+fn function_call(number: u8, a: &[u32; 8]) -> CoreCall {
+    let f = Function { fn_addr: a[0], a0: a[1], a1: a[2], a2: a[3], a3: a[4], sp: a[5], trampoline: a[6] };
+    if number == 23 {
+        return CoreCall::StartFunction(f);
+    }
+    CoreCall::CallFunction(f, a[7])
+}
+
 // Calls 26 to 28.
-fn fpb_call(number: u8, a: &[u32; 8]) -> FpbCall {
+fn fpb_call(number: u8, w: u32) -> FpbCall {
     match number {
-        26 => FpbCall::HwBreakpointSet(a[0]),
-        27 => FpbCall::HwBreakpointClear(a[0]),
-        _ => FpbCall::HwBreakpointAt(a[0]),
+        26 => FpbCall::HwBreakpointSet(w),
+        27 => FpbCall::HwBreakpointClear(w),
+        _ => FpbCall::HwBreakpointAt(w),
     }
 }
 
 // Calls 29 to 35.
-fn nrf_call(number: u8, a: &[u32; 8]) -> NrfCall {
+fn nrf_call(number: u8, w: u32, v: u32) -> NrfCall {
     match number {
         29 => NrfCall::Nrf52ApprotectStatus,
-        30 => NrfCall::Nrf52EraseAll(a[0]),
-        31 => NrfCall::Nrf52ErasePage { addr: a[0], polls: a[1] },
-        32 => NrfCall::Nrf52Program { addr: a[0], polls: a[1] },
+        30 => NrfCall::Nrf52EraseAll(w),
+        31 => NrfCall::Nrf52ErasePage { addr: w, polls: v },
+        32 => NrfCall::Nrf52Program { addr: w, polls: v },
         33 => NrfCall::Nrf54ApprotectStatus,
-        34 => NrfCall::Nrf54EraseAll(a[0]),
-        _ => NrfCall::Nrf54Program { addr: a[0], polls: a[1] },
+        34 => NrfCall::Nrf54EraseAll(w),
+        _ => NrfCall::Nrf54Program { addr: w, polls: v },
     }
 }
 
-fn call_of(number: u8, a: &[u32; 8]) -> EngineCall {
+fn plain_call(number: u8, w: u32, v: u32) -> EngineCall {
+    let b = (w % 256) as u8;
     if number <= 5 {
-        return EngineCall::Connect(connect_call(number, a));
+        return EngineCall::Connect(connect_call(number, w));
     }
     if number <= 14 {
-        return EngineCall::Memory(memory_call(number, a));
+        return EngineCall::Memory(memory_call(number, b, w, v));
     }
-    if number <= 25 {
-        return EngineCall::Core(core_call(number, a));
+    if number <= 24 {
+        return EngineCall::Core(core_call(number, b, w, v));
     }
     if number <= 28 {
-        return EngineCall::Fpb(fpb_call(number, a));
+        return EngineCall::Fpb(fpb_call(number, w));
     }
-    EngineCall::Nrf(nrf_call(number, a))
+    EngineCall::Nrf(nrf_call(number, w, v))
+}
+
+fn call_of(number: u8, a: &[u32; 8]) -> EngineCall {
+    if number == 23 || number == 25 {
+        return EngineCall::Core(function_call(number, a));
+    }
+    plain_call(number, a[0], a[1])
 }
 
 fn write(text: &[u8]) {
@@ -154,42 +166,48 @@ fn show_first(bytes: &[u8], n: usize) {
     }
 }
 
-fn show_array(bytes: &[u8; 16], n: usize) {
+fn spaced_hex(x: u32, digits: usize) {
+    write(b" ");
+    io::print_hex(1, wide_word(x), digits);
+}
+
+fn show_pins(output: u8, select: u8, wait_us: u32) {
+    spaced_hex(wide(output), 2);
+    spaced_hex(wide(select), 2);
+    spaced_hex(wait_us, 8);
+}
+
+// The bits of a call that hands bytes over, and these.
+fn show_handed(bits: u8, len: u8, bytes: &[u8; 16]) {
+    let n = len as usize;
+    write(b" ");
+    io::print_decimal(1, bits as u64);
+    write(b" ");
     show_first(bytes, n);
 }
 
-// A call that hands bytes over.
-fn show_handed(letter: &[u8], c: Call) {
-    let n = numbers::numbers_of(c);
-    let bytes = numbers::bytes_of(c);
-    let len = n.len as usize;
-    write(letter);
-    io::print_decimal(1, n.bits as u64);
-    write(b" ");
-    show_array(&bytes, len);
+// What follows the letter.
+fn show_numbers(c: TransportCall, bytes: &[u8; 16]) {
+    let kind = c.kind;
+    match kind {
+        0x54 => {
+            spaced_hex(wide(c.request), 1);
+            spaced_hex(c.word, 8);
+        }
+        0x50 => show_pins(c.output, c.select, c.word),
+        0x51 | 0x42 => show_handed(c.bits, c.len, bytes),
+        _ => {}
+    }
 }
 
+// A transport call: its letter, in small.
 fn show_call(c: Call) {
-    match c {
-        Call::Transfer { request, word } => {
-            write(b" t ");
-            io::print_hex(1, request as u64, 1);
-            write(b" ");
-            io::print_hex(1, word as u64, 8);
-        }
-        Call::Connect => write(b" c"),
-        Call::Sequence(p) => show_handed(b" q ", Call::Sequence(p)),
-        Call::Pins { output, select, wait_us } => {
-            write(b" p ");
-            io::print_hex(1, output as u64, 2);
-            write(b" ");
-            io::print_hex(1, select as u64, 2);
-            write(b" ");
-            io::print_hex(1, wait_us as u64, 8);
-        }
-        Call::WriteBits { bits, word } => show_handed(b" b ", Call::WriteBits { bits: bits, word: word }),
-        Call::OutputEnable => write(b" o"),
-    }
+    let n = numbers::numbers_of(c);
+    let bytes = numbers::bytes_of(c);
+    let letter = [0x20 + n.kind % 0x80; 1];
+    write(b" ");
+    write(&letter);
+    show_numbers(n, &bytes);
 }
 
 fn show_log(log: &[u64]) {
@@ -236,42 +254,51 @@ fn show_data(words: &[u32], bytes: &[u8]) {
 }
 
 // What follows the result: the words of 11, the bytes of 13, the frame of 23 if it succeeded.
-fn show_after(number: u8, e: CallEnding, words: &[u32], bytes: &[u8]) {
+fn show_after(number: u8, e: CallEnding, frame: &[u32; 8], words: &[u32], bytes: &[u8]) {
     match number {
         11 | 13 => show_data(words, bytes),
         23 => {
             if e.number == 0 {
-                show_data(words, bytes);
+                show_data(frame, bytes);
             }
         }
         _ => {}
     }
 }
 
-// A call and its text; what is remembered after it.
-fn perform(r: Remembered, number: u8, c: EngineCall, answers: &[u64], words: &mut [u32], bytes: &mut [u8]) -> Remembered {
-    let mut log = [0u64; 16384];
+// Call 24's frame stands in the words that it is lent.
+fn load_frame(words: &[u32], frame: &mut [u32; 8]) {
+    if 8 <= words.len() {
+        *frame = [words[0], words[1], words[2], words[3], words[4], words[5], words[6], words[7]];
+    }
+}
+
+fn show_number(number: u8) {
     write(b"call ");
     io::print_decimal(1, number as u64);
     write(b"\n");
-    let x = engine_run::run(r, c, 0xFFFFFFFF, answers, words, bytes, &mut log);
-    show_calls(&log, x.count as usize);
-    let e = x.ending;
-    show_result(e);
-    show_after(number, e, words, bytes);
-    x.remembered
 }
 
-fn arguments() -> [u32; 8] {
-    let a = next_word();
-    let b = next_word();
-    let c = next_word();
-    let d = next_word();
-    let e = next_word();
-    let f = next_word();
-    let g = next_word();
-    let h = next_word();
-    [a, b, c, d, e, f, g, h]
+fn show_ran(number: u8, x: Ran, log: &[u64], frame: &[u32; 8], words: &[u32], bytes: &[u8]) {
+    let e = x.ending;
+    show_calls(log, x.count as usize);
+    show_result(e);
+    show_after(number, e, frame, words, bytes);
+}
+
+fn run(r: Remembered, number: u8, a: &[u32; 8], answers: &[u64], frame: &mut [u32; 8], words: &mut [u32], bytes: &mut [u8], log: &mut [u64]) -> Ran {
+    engine_run::run(r, call_of(number, a), 0xFFFFFFFF, answers, frame, words, bytes, log)
+}
+
+// A call and its text; what is remembered after it.
+fn perform(r: Remembered, number: u8, a: &[u32; 8], answers: &[u64], words: &mut [u32], bytes: &mut [u8]) -> Remembered {
+    let mut log = [0u64; 16384];
+    let mut frame = [0u32; 8];
+    show_number(number);
+    load_frame(words, &mut frame);
+    let x = run(r, number, a, answers, &mut frame, words, bytes, &mut log);
+    show_ran(number, x, &log, &frame, words, bytes);
+    x.remembered
 }
 
 fn load_words(words: &mut [u32]) {
@@ -311,18 +338,18 @@ fn load_answers(answers: &mut [u64], runs: u32) -> usize {
 }
 
 // A call whose arguments are read: the words and bytes that it is lent follow, and then its answers.
-fn take_call(r: Remembered, number: u8, c: EngineCall, runs: u32, answers: &mut [u64], words: &mut [u32], bytes: &mut [u8]) -> Remembered {
+fn take_call(r: Remembered, number: u8, a: &[u32; 8], runs: u32, answers: &mut [u64], words: &mut [u32], bytes: &mut [u8]) -> Remembered {
     load_words(words);
     io::read_full(0, bytes);
     let n = load_answers(answers, runs);
     if answers.len() < n {
         return r;
     }
-    perform(r, number, c, &answers[..n], words, bytes)
+    perform(r, number, a, &answers[..n], words, bytes)
 }
 
 // The same with so many of the words and bytes; a call that does not fit is passed over.
-fn lend(r: Remembered, number: u8, c: EngineCall, n: usize, m: usize, runs: u32, words: &mut [u32], bytes: &mut [u8]) -> Remembered {
+fn lend(r: Remembered, number: u8, a: &[u32; 8], n: usize, m: usize, runs: u32, words: &mut [u32], bytes: &mut [u8]) -> Remembered {
     let mut answers = [0u64; 16384];
     if words.len() < n {
         return r;
@@ -330,25 +357,22 @@ fn lend(r: Remembered, number: u8, c: EngineCall, n: usize, m: usize, runs: u32,
     if bytes.len() < m {
         return r;
     }
-    take_call(r, number, c, runs, &mut answers, &mut words[..n], &mut bytes[..m])
+    take_call(r, number, a, runs, &mut answers, &mut words[..n], &mut bytes[..m])
 }
 
 fn next_call(r: Remembered, number: u8) -> Remembered {
     let n = next_half() as usize;
     let m = next_half() as usize;
     let runs = next_half();
-    let a = arguments();
+    let mut a = [0u32; 8];
+    load_words(&mut a);
     let mut words = [0u32; 512];
     let mut bytes = [0u8; 512];
-    lend(r, number, call_of(number, &a), n, m, runs, &mut words, &mut bytes)
-}
-
-fn new_engine() -> Remembered {
-    Remembered { select: 0xFFFFFFFF, csw: false, apsel: 0 }
+    lend(r, number, &a, n, m, runs, &mut words, &mut bytes)
 }
 
 fn main() {
-    let mut r = new_engine();
+    let mut r = jobs::new();
     let mut left: u32 = 100000;
     while 0 < left {
         left -= 1;
@@ -358,7 +382,7 @@ fn main() {
         }
         if head[0] == 1 {
             write(b"list\n");
-            r = new_engine();
+            r = jobs::new();
         }
         r = next_call(r, head[1]);
     }

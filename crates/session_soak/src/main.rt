@@ -1,146 +1,202 @@
 // A soak of the session over target and line: pseudo-random lists of calls with faults, and the four clauses of demand 3 checked
 // by execution after every call. The theorem says as much of every list; this shows that the code under it runs, and how often.
-// It prints how many lists, calls, refusals and losses it saw, and how many checks failed.
-ghost use Prim.Native.Nat.{_≤_};
-use core::CoreCall;
-use fpb::FpbCall;
+// It prints how many calls of each kind ended with each result, how many failed half done, and how many checks failed.
+ghost use Prim.Native.Nat.{_≤_, _<_};
 use engine::NextStep;
 use numbers::{CallEnding, TransportCall};
-use session::{Reply, Session, SessionAnswer};
+use session::{Reply, SessionAnswer};
+use session_items::Listed;
 use session_rules::SessionCall;
-use target::{Act, Loss, Target};
+use target::{Delivered, Target};
 use transport::{Answer, Call, Remembered};
 
 const LISTS: u32 = 100000;
 
-// Where the target's memory starts, just below a multiple of 1 KiB, and how many bytes it has.
-const BASE: u32 = 0x200003C0;
-
+// How many bytes of memory a target has.
 const BYTES: u32 = 128;
 
-// What was seen: lists, calls, refused calls, lost transport calls, transport calls, and checks that failed.
-pub struct Seen {
-    pub lists: u64,
-    pub calls: u64,
-    pub refused: u64,
-    pub lost: u64,
-    pub transport: u64,
-    pub failed: u64,
-}
+// The kinds of calls.
+const READ: usize = 0;
 
-// All but the session: the target, a line that fails once in `rate` transport calls, the generator's number, the last answer.
-// By the trace alone: whether a transport call of this call was lost, whether the next one is an ignored ABORT, whether the session
-// was open before.
+const WRITE: usize = 1;
+
+const CONNECT: usize = 2;
+
+const OTHER: usize = 3;
+
+// Where things are counted, in the order in which they are printed. A call is counted at ENDED, four places a result.
+const LISTED: usize = 0;
+
+const CALLED: usize = 1;
+
+const MADE: usize = 2;
+
+const LOST: usize = 3;
+
+const ENDED: usize = 4;
+
+const HALF: usize = 56;
+
+const FAILED: usize = 58;
+
+// All but the session: the target; the last answer; a line that answers WAIT to the next `waits` transport calls, and else fails
+// at `faults` of 2^32; the generator's number; the transport calls of a list and the losses among them. By the trace alone: whether
+// a transport call of this call was lost, and whether the next one is an ABORT, whose answer is ignored.
 pub struct World {
     pub target: Target,
-    pub rate: u32,
-    pub random: u32,
     pub answer: Answer,
+    pub waits: u32,
+    pub faults: u32,
+    pub random: u32,
+    pub made: u64,
+    pub losses: u64,
     pub lost: bool,
     pub abort: bool,
+}
+
+// A call: its number, its arguments (`len` bytes from `addr` on, or the word to be written), one more than its budget, and the
+// generator's number after all that was drawn.
+pub struct Asked {
+    pub number: u32,
+    pub addr: u32,
+    pub word: u32,
+    pub len: u32,
+    pub turns: u32,
+    pub random: u32,
+}
+
+// What the session says: the next transport call or the ending, whether it is open, what it remembers.
+pub struct Said {
+    pub next: NextStep,
     pub open: bool,
-    pub seen: Seen,
+    pub remembered: Remembered,
 }
 
 fn plus(n: u64, m: u64) -> u64 {
     std::num::wrapping_add_u64(n, m)
 }
 
-// The next number of a Lehmer generator.
+// The next number of a multiplicative generator modulo a prime just below 2^32, and of another one.
 fn next(x: u32) -> u32 {
-    ((x as u64) * 48271 % 2147483647) as u32
+    ((x as u64) * 1588635695 % 4294967291) as u32
 }
 
-// A number below n, which is not 0.
-fn below(x: u32, n: u32) -> u32 {
-    if n == 0 {
+fn other(x: u32) -> u32 {
+    ((x as u64) * 279470273 % 4294967291) as u32
+}
+
+// Number k after x. Whatever is drawn has a number of its own.
+fn nth(x: u32, k: u32) -> u32 {
+    let mut y = x;
+    let mut left = k;
+    while 0 < left {
+        left -= 1;
+        y = next(y);
+    }
+    y
+}
+
+// Bytes, by the other generator, so that they are not what is drawn next.
+fn some_bytes(x: u32) -> [u8; 32] {
+    let mut b = [0u8; 32];
+    let mut y = x;
+    let mut i: usize = 0;
+    while i < 32 {
+        y = other(y);
+        b[i] = (y % 256) as u8;
+        i += 1;
+    }
+    b
+}
+
+// What the line does, by the numbers of `target_line::act_of`: it delivers (0), answers WAIT (1), or loses a transport call that was
+// delivered or was not (2 and 3) with an error: an ack up to 255, NotSupported (256) or another one.
+fn some_act(waits: u32, faults: u32, x: u32) -> u32 {
+    if faults <= nth(x, 1) {
+        return (0 < waits) as u32;
+    }
+    if (0 < waits) | (nth(x, 2) % 4 == 0) {
+        return 1;
+    }
+    nth(x, 3) % 320 * 4 + 2 + nth(x, 4) % 2
+}
+
+// One fault in 32 is followed by a stretch of WAITs, of which 65 end a transfer.
+fn waits_after(waits: u32, act: u32, x: u32) -> u32 {
+    if 0 < waits {
+        return waits - 1;
+    }
+    if (act == 0) | (nth(x, 5) % 32 != 0) {
         return 0;
     }
-    x / 64 % n
-}
-
-// Whether an answer is neither Ok nor WAIT nor FAULT.
-fn is_loss(a: Answer) -> bool {
-    match a {
-        Answer::Good(_) => false,
-        Answer::SwdError(k) => k != 2 && k != 4,
-        Answer::NotSupported => true,
-        Answer::Other => true,
-    }
-}
-
-// An error of a transfer, WAIT excepted, is followed by an ABORT.
-fn is_abort_due(transfer: bool, a: Answer) -> bool {
-    match a {
-        Answer::Good(_) => false,
-        Answer::SwdError(k) => transfer && k != 2,
-        Answer::NotSupported => transfer,
-        Answer::Other => transfer,
-    }
-}
-
-fn some_loss(x: u32) -> Loss {
-    match below(x, 5) {
-        0 => Loss::NotSupported,
-        1 => Loss::Other,
-        2 => Loss::Ack(0),
-        3 => Loss::Ack(7),
-        _ => Loss::Ack(2),
-    }
-}
-
-// What the line does: one fault in `rate`.
-fn some_act(x: u32, rate: u32) -> Act {
-    let y = next(x);
-    let z = next(y);
-    if below(x, rate) != 0 {
-        return Act::Deliver;
-    }
-    match below(y, 4) {
-        0 => Act::Wait,
-        1 => Act::Lose { delivered: true, error: some_loss(z) },
-        2 => Act::Lose { delivered: false, error: some_loss(z) },
-        _ => Act::Wait,
-    }
+    nth(x, 6) % 140
 }
 
 // Of a transport call the target sees the transfers; the others reach no register.
-fn is_transfer(c: TransportCall) -> bool {
-    c.kind == 0x54
-}
-
 fn call_of(c: TransportCall) -> Call {
-    if is_transfer(c) {
+    if c.kind == 0x54 {
         return Call::Transfer { request: c.request, word: c.word };
     }
     Call::Connect
 }
 
-// One more transport call.
-fn tallied(s: Seen, loss: bool) -> Seen {
-    let mut n = s;
-    n.transport = plus(n.transport, 1);
-    if loss {
-        n.lost = plus(n.lost, 1);
+// What is heard of a transport call.
+const OK: u32 = 0;
+
+const WAIT: u32 = 1;
+
+const FAULT: u32 = 2;
+
+const LOSS: u32 = 3;
+
+fn heard(a: Answer) -> u32 {
+    match a {
+        Answer::Good(_) => OK,
+        Answer::SwdError(k) => {
+            if k == 2 {
+                return WAIT;
+            }
+            if k == 4 {
+                return FAULT;
+            }
+            LOSS
+        }
+        Answer::NotSupported => LOSS,
+        Answer::Other => LOSS,
     }
-    n
+}
+
+// After a transport call. An error of a transfer, WAIT excepted, is followed by an ABORT.
+fn told(w: World, act: u32, transfer: bool, d: Delivered) -> World {
+    let t = d.target;
+    let a = d.answer;
+    let k = heard(a);
+    World {
+        target: t,
+        answer: a,
+        waits: waits_after(w.waits, act, w.random),
+        faults: w.faults,
+        random: nth(w.random, 7),
+        made: plus(w.made, 1),
+        losses: plus(w.losses, (k == LOSS) as u64),
+        lost: w.lost | (!w.abort & (k == LOSS)),
+        abort: !w.abort & transfer & (FAULT <= k),
+    }
 }
 
 // One transport call over the line.
 fn made(w: World, c: TransportCall, mem: &mut [u8]) -> World {
-    let x = w.random;
-    let d = target_line::over_line(w.target, call_of(c), some_act(x, w.rate), mem);
-    let t = d.target;
-    let a = d.answer;
-    let lost = w.lost || (!w.abort && is_loss(a));
-    let abort = !w.abort && is_abort_due(is_transfer(c), a);
-    let seen = tallied(w.seen, is_loss(a));
-    World { target: t, rate: w.rate, random: next(next(x)), answer: a, lost: lost, abort: abort, open: w.open, seen: seen }
+    let act = some_act(w.waits, w.faults, w.random);
+    let d = target_line::over_line(w.target, call_of(c), target_line::act_of(act), mem);
+    told(w, act, c.kind == 0x54, d)
 }
 
-// The transport call that is due goes over the line.
-fn sent(w: World, r: Reply, mem: &mut [u8]) -> World {
-    let n = r.next;
+// The transport call that is due goes over the line, if one may be made.
+fn sent(w: World, x: Said, may: u32, mem: &mut [u8]) -> World {
+    if may == 0 {
+        return w;
+    }
+    let n = x.next;
     match n {
         NextStep::Make(c) => made(w, c, mem),
         NextStep::Finish(_) => w,
@@ -148,10 +204,10 @@ fn sent(w: World, r: Reply, mem: &mut [u8]) -> World {
 }
 
 // How many of `n` transport calls may be made: none where none is due.
-fn allowed(r: Reply, n: u32) -> u32
+fn allowed(x: Said, n: u32) -> u32
     ensures { λ k. ⌜ k ≤ n ⌝ }
 {
-    let next = r.next;
+    let next = x.next;
     match next {
         NextStep::Make(_) => n,
         NextStep::Finish(_) => 0,
@@ -159,312 +215,34 @@ fn allowed(r: Reply, n: u32) -> u32
 }
 
 // A call whose budget ends before it does is Spent.
-fn ending_of(r: Reply) -> CallEnding {
-    let n = r.next;
+fn ending_of(x: Said) -> CallEnding {
+    let n = x.next;
     match n {
         NextStep::Make(_) => CallEnding { number: 11, value: 0 },
         NextStep::Finish(e) => e,
     }
 }
 
-// What a call is: those that read or write memory apart.
-pub enum What {
-    ReadWord,
-    WriteWord,
-    ReadBytes,
-    WriteBytes,
-    Other,
-    Connect,
+// A fresh session, which has nothing due.
+fn idle() -> SessionAnswer {
+    let none = CallEnding { number: 0, value: 0 };
+    SessionAnswer { session: session::fresh(), reply: Reply { next: NextStep::Finish(none), bytes: [0u8; 16] } }
 }
 
-// A call: `len` bytes from `addr` on, the word to be written, the choice of another call, and the budget.
-pub struct Asked {
-    pub what: What,
-    pub addr: u32,
-    pub word: u32,
-    pub other: u32,
-    pub len: u32,
-    pub budget: u32,
+fn what_said(now: SessionAnswer) -> Said {
+    let s = now.session;
+    let reply = now.reply;
+    let next = reply.next;
+    let remembered = s.state.remembered;
+    Said { next: next, open: session::open(s), remembered: remembered }
 }
 
-// An address in or near the memory; most are whole words.
-fn some_addr(x: u32) -> u32 {
-    let a = std::num::wrapping_add_u32(BASE - 8, below(x, 144));
-    if below(next(x), 8) == 0 {
-        return a;
-    }
-    std::num::wrapping_sub_u32(a, a % 4)
-}
-
-fn core_call(n: u32) -> CoreCall {
-    match n {
-        0 => CoreCall::DebugEnable,
-        1 => CoreCall::Halt,
-        2 => CoreCall::IsHalted,
-        3 => CoreCall::FinishFunction(2),
-        _ => CoreCall::ReadCoreReg(15),
-    }
-}
-
-fn other_call(x: u32) -> SessionCall {
-    let n = below(x, 6);
-    if n == 4 {
-        return SessionCall::Fpb(FpbCall::HwBreakpointSet(0x102));
-    }
-    SessionCall::Core(core_call(n))
-}
-
-fn what_of(n: u32) -> What {
-    match n {
-        0 | 1 => What::ReadWord,
-        2 | 3 => What::WriteWord,
-        4 | 5 => What::ReadBytes,
-        6 | 7 => What::WriteBytes,
-        8 => What::Other,
-        _ => What::Connect,
-    }
-}
-
-// A word has 4 bytes.
-fn len_of(n: u32, len: u32) -> u32 {
-    match n {
-        0 | 1 | 2 | 3 => 4,
-        4 | 5 | 6 | 7 => len,
-        _ => 0,
-    }
-}
-
-// Most calls have budget enough; some do not.
-fn some_budget(x: u32) -> u32 {
-    if below(next(next(next(x))), 16) == 0 {
-        return below(x, 40);
-    }
-    4000
-}
-
-fn some_call(x: u32) -> Asked {
-    let y = next(x);
-    let z = next(y);
-    let n = below(x, 12);
-    let w = what_of(n);
-    Asked { what: w, addr: some_addr(y), word: z, other: y, len: len_of(n, below(z, 25)), budget: some_budget(x) }
-}
-
+// The call that is asked for; a number that is none of a session's is not drawn.
 fn session_call(a: Asked) -> SessionCall {
-    let w = a.what;
-    match w {
-        What::ReadWord => SessionCall::ReadWord(a.addr),
-        What::WriteWord => SessionCall::WriteWord(a.addr, a.word),
-        What::ReadBytes => SessionCall::ReadMem(a.addr),
-        What::WriteBytes => SessionCall::WriteMem(a.addr),
-        What::Other => other_call(a.other),
-        What::Connect => SessionCall::ConnectSwd,
+    match session_items::call_at(&[a.number, a.turns, a.len, a.addr, a.word, 0, 0, 0, 0, 0, a.addr], 0) {
+        Listed::Call(c) => c,
+        Listed::Nothing => SessionCall::ConnectSwd,
     }
-}
-
-// Byte `k` of a word, lowest first.
-fn byte_of(word: u32, k: u32) -> u8 {
-    match k {
-        0 => (word % 256) as u8,
-        1 => (word / 256 % 256) as u8,
-        2 => (word / 65536 % 256) as u8,
-        _ => (word / 16777216 % 256) as u8,
-    }
-}
-
-fn at(bytes: &[u8], i: u32) -> u8 {
-    if (i as usize) < bytes.len() {
-        return bytes[i as usize];
-    }
-    0
-}
-
-// Whether a byte of memory is as a write of it has to leave it.
-fn written(ok: bool, within: bool, old: u8, now: u8, new: u8) -> bool {
-    if ok {
-        if within {
-            return now == new;
-        }
-        return now == old;
-    }
-    if now == old {
-        return true;
-    }
-    within && now == new
-}
-
-// Whether a range lies in memory.
-fn inside(addr: u32, len: u32) -> bool {
-    if addr < BASE {
-        return false;
-    }
-    let from = addr - BASE;
-    if BYTES < from {
-        return false;
-    }
-    len <= BYTES - from
-}
-
-// Whether a byte of memory is as a call has to leave it: `given` is what was read there or was to be written.
-fn byte_kept(writes: bool, ok: bool, within: bool, old: u8, now: u8, given: u8) -> bool {
-    if writes {
-        return written(ok, within, old, now, given);
-    }
-    if now != old {
-        return false;
-    }
-    !(ok && within) || now == given
-}
-
-// Clauses 3 and 4, for a call that reads or writes `len` bytes from `addr` on.
-fn memory_kept(writes: bool, ok: bool, addr: u32, len: u32, before: &[u8], after: &[u8], given: &[u8]) -> bool {
-    if ok && 0 < len && !inside(addr, len) {
-        return false;
-    }
-    let mut i: u32 = 0;
-    while i < BYTES {
-        let k = std::num::wrapping_sub_u32(BASE + i, addr);
-        if !byte_kept(writes, ok, k < len, at(before, i), at(after, i), at(given, k)) {
-            return false;
-        }
-        i += 1;
-    }
-    true
-}
-
-// Clause 2.
-fn agrees(r: Remembered, t: Target) -> bool {
-    if r.select != 0xFFFFFFFF && r.select != t.select {
-        return false;
-    }
-    !r.csw || t.csw == 0x23000012
-}
-
-// Clause 1: whether the session has to be open after a call, by its result and its trace.
-fn opens(was: bool, connect: bool, ending: CallEnding, lost: bool) -> bool {
-    if lost {
-        return false;
-    }
-    if ending.number == 11 {
-        return false;
-    }
-    if connect {
-        return ending.number == 0;
-    }
-    was
-}
-
-fn is_connect(w: What) -> bool {
-    match w {
-        What::ReadWord => false,
-        What::WriteWord => false,
-        What::ReadBytes => false,
-        What::WriteBytes => false,
-        What::Other => false,
-        What::Connect => true,
-    }
-}
-
-fn put_word(w: u32, g: &mut [u8; 32]) {
-    g[0] = byte_of(w, 0);
-    g[1] = byte_of(w, 1);
-    g[2] = byte_of(w, 2);
-    g[3] = byte_of(w, 3);
-}
-
-// Whether memory is kept: by the buffer, or by the word that call 9 gave or call 10 writes.
-fn kept(a: Asked, e: CallEnding, before: &[u8; 128], after: &[u8; 128], buf: &mut [u8; 32]) -> bool {
-    let ok = e.number == 0;
-    let w = a.what;
-    match w {
-        What::ReadWord => {
-            put_word(e.value, buf);
-            memory_kept(false, ok, a.addr, a.len, before, after, buf)
-        }
-        What::WriteWord => {
-            put_word(a.word, buf);
-            memory_kept(true, ok, a.addr, a.len, before, after, buf)
-        }
-        What::ReadBytes => memory_kept(false, ok, a.addr, a.len, before, after, buf),
-        What::WriteBytes => memory_kept(true, ok, a.addr, a.len, before, after, buf),
-        What::Other => true,
-        What::Connect => true,
-    }
-}
-
-// Pseudo-random bytes.
-fn some_bytes(x: u32) -> [u8; 32] {
-    let mut buf = [0u8; 32];
-    let mut y = x;
-    let mut left: usize = 32;
-    while 0 < left {
-        left -= 1;
-        y = next(y);
-        if left < 32 {
-            buf[left] = (y / 256 % 256) as u8;
-        }
-    }
-    buf
-}
-
-// One more call.
-fn counted(s: Seen, number: u8, failed: bool) -> Seen {
-    let mut n = s;
-    n.calls = plus(n.calls, 1);
-    if number == 8 || number == 9 || number == 10 {
-        n.refused = plus(n.refused, 1);
-    }
-    if failed {
-        n.failed = plus(n.failed, 1);
-    }
-    n
-}
-
-// A call begins: nothing of it is lost yet.
-fn begun(w: World) -> World {
-    let mut v = w;
-    v.random = next(next(next(next(w.random))));
-    v.lost = false;
-    v.abort = false;
-    v
-}
-
-// The checks after a call: `open` and `r` are the session's.
-fn checked(w: World, a: Asked, e: CallEnding, kept: bool, open: bool, r: Remembered) -> World {
-    let what = a.what;
-    let due = opens(w.open, is_connect(what), e, w.lost);
-    let good = kept && open == due && (!open || agrees(r, w.target));
-    let mut v = w;
-    v.open = due;
-    v.seen = counted(w.seen, e.number, !good);
-    v
-}
-
-// A target whose registers are arbitrary, over the same memory.
-fn some_target(x: u32) -> Target {
-    let y = next(x);
-    let z = next(y);
-    Target {
-        dpidr: 0x0BC12477,
-        d: below(x, 4),
-        width: 10,
-        base: BASE,
-        select: z,
-        cdbgpwrupreq: below(x, 2) == 0,
-        csyspwrupreq: below(y, 2) == 0,
-        owed: below(y, 3),
-        sticky: below(z, 2) == 0,
-        rdbuff: y,
-        csw: std::num::wrapping_add_u32(z - z % 8, 2),
-        tar: x,
-    }
-}
-
-// A target, and a line that fails once in 4 to 63 transport calls.
-fn some_world(y: u32, seen: Seen) -> World {
-    let t = some_target(y);
-    let rate = std::num::wrapping_add_u32(4, below(y, 60));
-    World { target: t, rate: rate, random: next(y), answer: Answer::Other, lost: false, abort: false, open: false, seen: seen }
 }
 
 fn fitting(len: u32, all: usize) -> usize
@@ -476,79 +254,316 @@ fn fitting(len: u32, all: usize) -> usize
     all
 }
 
-// A fresh session, which has nothing due.
-fn idle() -> SessionAnswer {
-    let none = CallEnding { number: 0, value: 0 };
-    SessionAnswer { session: session::fresh(), reply: Reply { next: NextStep::Finish(none), bytes: [0u8; 16] } }
+// A call's start, or its step with the last answer, over the first bytes of the buffer.
+fn moved(now: SessionAnswer, begin: bool, a: Asked, answer: Answer, buf: &mut [u8]) -> SessionAnswer {
+    let s = now.session;
+    let n = fitting(a.len, buf.len());
+    if begin {
+        return session::session_start(s, session_call(a), &mut buf[..n]);
+    }
+    session::session_step(s, answer, &mut buf[..n])
 }
 
-// A call's start and its step over the first `len` bytes of the buffer.
-fn start(s: Session, c: SessionCall, len: u32, buf: &mut [u8]) -> SessionAnswer {
-    let n = fitting(len, buf.len());
-    session::session_start(s, c, &mut buf[..n])
+// The number of a call; a closed session mostly gets a connect.
+fn some_number(open: bool, x: u32) -> u32 {
+    if !open & (nth(x, 1) % 8 != 0) {
+        return 3;
+    }
+    match nth(x, 2) % 16 {
+        0 | 1 | 2 => 9,
+        3 | 4 | 5 => 10,
+        6 | 7 | 8 | 9 => 13,
+        10 | 11 | 12 | 13 => 14,
+        14 => 3,
+        _ => 15 + nth(x, 3) % 14,
+    }
 }
 
-fn step(s: Session, a: Answer, len: u32, buf: &mut [u8]) -> SessionAnswer {
-    let n = fitting(len, buf.len());
-    session::session_step(s, a, &mut buf[..n])
+// A word has 4 bytes.
+fn some_len(number: u32, x: u32) -> u32 {
+    match number {
+        9 | 10 => 4,
+        13 | 14 => nth(x, 4) % 25,
+        _ => 0,
+    }
 }
 
-fn remembered(s: Session) -> Remembered {
-    let state = s.state;
-    state.remembered
+// An address in or near the memory, few of them of no whole word for a word, half of them for bytes. A call that is no read or write
+// gets a small number as register, polls or address.
+fn some_addr(number: u32, base: u32, x: u32) -> u32 {
+    let a = std::num::wrapping_sub_u32(std::num::wrapping_add_u32(base, nth(x, 5) % 144), 8);
+    let odd = nth(x, 6) % 16;
+    match number {
+        9 | 10 => a - a % 4 + odd / 15,
+        13 | 14 => a - a % 4 + odd % 4,
+        _ => odd,
+    }
 }
 
-// A list of at most 11 calls on a fresh session, each with its checks.
-fn list_of(x: u32, seen: Seen, mem: &mut [u8; 128]) -> World {
+// Most calls have budget enough; some do not.
+fn some_turns(x: u32) -> u32 {
+    if nth(x, 7) % 32 == 0 {
+        return 1 + nth(x, 8) % 40;
+    }
+    2501
+}
+
+fn some_call(open: bool, base: u32, x: u32) -> Asked {
+    let n = some_number(open, x);
+    Asked { number: n, addr: some_addr(n, base, x), word: nth(x, 9), len: some_len(n, x), turns: some_turns(x), random: nth(x, 10) }
+}
+
+fn kind_of(number: u32) -> usize {
+    match number {
+        9 | 13 => READ,
+        10 | 14 => WRITE,
+        3 => CONNECT,
+        _ => OTHER,
+    }
+}
+
+// The bytes that a call read or was to write: a word's, lowest first, or those of its buffer.
+fn bytes_of(number: u32, value: u32, word: u32, buf: [u8; 32]) -> [u8; 32] {
+    match number {
+        9 => word_bytes(value),
+        10 => word_bytes(word),
+        _ => buf,
+    }
+}
+
+fn word_bytes(w: u32) -> [u8; 32] {
+    let mut b = [0u8; 32];
+    b[0] = (w % 256) as u8;
+    b[1] = (w / 256 % 256) as u8;
+    b[2] = (w / 65536 % 256) as u8;
+    b[3] = (w / 16777216 % 256) as u8;
+    b
+}
+
+fn at(bytes: &[u8], i: u32) -> u8 {
+    if (i as usize) < bytes.len() {
+        return bytes[i as usize];
+    }
+    0
+}
+
+// Whether a byte of memory is as a call has to leave it. `given` is what was read there or was to be written; in a call that
+// succeeded it has to be there.
+fn byte_kept(writes: bool, must: bool, within: bool, old: u8, now: u8, given: u8) -> bool {
+    let new = within & (now == given);
+    let same = now == old;
+    if writes {
+        return new | (same & !must);
+    }
+    same & (new | !must)
+}
+
+// Whether a range lies in memory: `from` is how far behind its start.
+fn inside(from: u32, len: u32) -> bool {
+    (from as u64) + (len as u64) <= 128
+}
+
+// Clauses 3 and 4, for a call that reads or writes `len` bytes, `from` behind the start of memory.
+fn memory_kept(writes: bool, ok: bool, from: u32, len: u32, before: &[u8; 128], after: &[u8; 128], given: &[u8; 32]) -> bool {
+    let mut good = !ok | (len == 0) | inside(from, len);
+    let mut i: u32 = 0;
+    while i < BYTES {
+        let k = std::num::wrapping_sub_u32(i, from);
+        good = good & byte_kept(writes, ok & (k < len), k < len, at(before, i), at(after, i), at(given, k));
+        i += 1;
+    }
+    good
+}
+
+// Clause 2.
+fn agrees(r: Remembered, t: Target) -> bool {
+    ((r.select == 0xFFFFFFFF) | (r.select == t.select)) & (!r.csw | (t.csw == 0x23000012))
+}
+
+// Clause 1: whether the session has to be open after a call, by its result and its trace.
+fn opens(was: bool, connect: bool, number: u8, lost: bool) -> bool {
+    !lost & (number != 11) & ((connect & (number == 0)) | (!connect & was))
+}
+
+// Counts n more at a place.
+fn count(seen: &mut [u64; 59], place: usize, n: u64) {
+    if place < 59 {
+        seen[place] = plus(seen[place], n);
+    }
+}
+
+fn wide(x: u8) -> usize
+    ensures { λ r. ⌜ r < 256 ⌝ }
+{
+    x as usize
+}
+
+// Whether a read that failed has given some bytes, or a write that failed has left some new. `given` is the buffer as the call
+// found it.
+fn is_half_done(kind: usize, ok: bool, before: &[u8; 128], after: &[u8; 128], given: &[u8; 32], buf: &[u8; 32]) -> bool {
+    !ok & (((kind == READ) & !check::same(given, buf)) | ((kind == WRITE) & !check::same(before, after)))
+}
+
+// The call is counted.
+fn counted(kind: usize, result: u8, half: bool, good: bool, seen: &mut [u64; 59]) {
+    count(seen, CALLED, 1);
+    count(seen, std::num::wrapping_add_usize(kind, ENDED + 4 * wide(result)), 1);
+    count(seen, std::num::wrapping_add_usize(kind, HALF), half as u64);
+    count(seen, FAILED, !good as u64);
+}
+
+// The checks after a call. Whether the session has to be open now.
+fn checked(w: World, x: Said, a: Asked, was: bool, before: &[u8; 128], after: &[u8; 128], given: &[u8; 32], buf: &[u8; 32], seen: &mut [u64; 59]) -> bool {
+    let e = ending_of(x);
+    let ok = e.number == 0;
+    let kind = kind_of(a.number);
+    let t = w.target;
+    let from = std::num::wrapping_sub_u32(a.addr, t.base);
+    let due = opens(was, kind == CONNECT, e.number, w.lost);
+    let bytes = bytes_of(a.number, e.value, a.word, *buf);
+    let kept = (CONNECT <= kind) | memory_kept(kind == WRITE, ok, from, a.len, before, after, &bytes);
+    let good = kept & (x.open == due) & (!due | agrees(x.remembered, t));
+    counted(kind, e.number, is_half_done(kind, ok, before, after, given, buf), good, seen);
+    due
+}
+
+// Where a target's memory starts: below a multiple of 1 KiB, at the core's debug registers, at the breakpoint unit, or so that it
+// ends at 2^32.
+fn some_base(x: u32) -> u32 {
+    match x % 16 {
+        0 => 0xE000ED80,
+        1 => 0xE0002000,
+        2 => 0xFFFFFF80,
+        _ => 0x200003C0,
+    }
+}
+
+// An ID register, now and then one that no target has.
+fn some_dpidr(x: u32) -> u32 {
+    match x % 64 {
+        0 => 0,
+        1 => 0xFFFFFFFF,
+        _ => 0x0BC12477,
+    }
+}
+
+// How many reads a power-up takes: a few, and now and then about as many as a connect waits for.
+fn some_d(x: u32, y: u32) -> u32 {
+    if x % 256 == 0 {
+        return 1022 + y % 4;
+    }
+    y % 4
+}
+
+// A line that never fails, or fails once in 8 to 63, or once in 64 to 463 transport calls.
+fn some_faults(x: u32, y: u32) -> u32 {
+    match x % 4 {
+        0 => 0,
+        1 => 0xFFFFFFFF / (8 + y % 56),
+        _ => 0xFFFFFFFF / (64 + y % 400),
+    }
+}
+
+// A target whose registers are arbitrary; the size field of CSW is always 2.
+fn some_target(x: u32) -> Target {
+    Target {
+        dpidr: some_dpidr(nth(x, 1)),
+        d: some_d(nth(x, 2), nth(x, 3)),
+        width: 10,
+        base: some_base(nth(x, 4)),
+        select: nth(x, 5),
+        cdbgpwrupreq: nth(x, 6) % 2 == 0,
+        csyspwrupreq: nth(x, 7) % 2 == 0,
+        owed: nth(x, 8) % 3,
+        sticky: nth(x, 9) % 2 == 0,
+        rdbuff: nth(x, 10),
+        csw: nth(x, 11) / 8 * 8 + 2,
+        tar: nth(x, 12),
+    }
+}
+
+// A target, and a line.
+fn some_world(x: u32) -> World {
+    let t = some_target(x);
+    let faults = some_faults(nth(x, 13), nth(x, 14));
+    World { target: t, answer: Answer::Other, waits: 0, faults: faults, random: nth(x, 16), made: 0, losses: 0, lost: false, abort: false }
+}
+
+// A call begins: nothing of it is lost yet.
+fn begun(w: World, random: u32) -> World {
+    let mut v = w;
+    v.random = random;
+    v.lost = false;
+    v.abort = false;
+    v
+}
+
+// A list of at most 11 calls on a fresh session, each with its checks. The first turn of a call is its start, the others steps.
+fn list_of(random: u32, seen: &mut [u64; 59], mem: &mut [u8; 128]) -> World {
+    let mut w = some_world(random);
     let mut now = idle();
-    let mut w = some_world(next(x), seen);
-    let mut left = below(x, 12);
+    let mut x = what_said(now);
+    let mut open = false;
+    let mut left = nth(random, 15) % 12;
     while 0 < left {
         left -= 1;
-        let a = some_call(w.random);
-        let mut buf = some_bytes(w.random);
+        let a = some_call(open, w.target.base, w.random);
+        let given = some_bytes(a.random);
         let before = *mem;
-        w = begun(w);
-        now = start(now.session, session_call(a), a.len, &mut buf);
-        let mut may = allowed(now.reply, a.budget);
+        let mut buf = given;
+        let mut may = a.turns;
+        w = begun(w, a.random);
         while 0 < may {
-            w = sent(w, now.reply, mem);
             let answer = w.answer;
-            now = step(now.session, answer, a.len, &mut buf);
-            may = allowed(now.reply, may - 1);
+            now = moved(now, may == a.turns, a, answer, &mut buf);
+            x = what_said(now);
+            may = allowed(x, may - 1);
+            w = sent(w, x, may, mem);
         }
-        let e = ending_of(now.reply);
-        let good = kept(a, e, &before, mem, &mut buf);
-        w = checked(w, a, e, good, session::open(now.session), remembered(now.session));
+        open = checked(w, x, a, open, &before, mem, &given, &buf, seen);
     }
     w
 }
 
-fn show(n: u64, text: &[u8]) {
-    io::print_decimal(1, n);
-    io::write_all(1, text);
+// A number for #, and any other byte as it is. How many numbers were shown.
+fn show(byte: &[u8], n: u64) -> usize {
+    if at(byte, 0) == b'#' {
+        io::print_decimal(1, n);
+        return 1;
+    }
+    io::write_all(1, byte);
+    0
 }
 
-fn report(s: Seen) {
-    show(s.lists, b" lists, ");
-    show(s.calls, b" calls, ");
-    show(s.refused, b" refused, ");
-    show(s.transport, b" transport calls, ");
-    show(s.lost, b" of them lost; ");
-    show(s.failed, b" checks failed\n");
+fn number(seen: &[u64; 59], k: usize) -> u64 {
+    if k < 59 {
+        return seen[k];
+    }
+    0
+}
+
+// The text, with the numbers.
+fn print(text: &[u8], seen: &[u64; 59]) {
+    let mut i: usize = 0;
+    let mut k: usize = 0;
+    while i < text.len() {
+        k = std::num::wrapping_add_usize(k, show(&text[i..i + 1], number(seen, k)));
+        i += 1;
+    }
 }
 
 fn main() {
     let mut mem = [0u8; 128];
-    let mut seen = Seen { lists: 0, calls: 0, refused: 0, lost: 0, transport: 0, failed: 0 };
+    let mut seen = [0u64; 59];
     let mut x: u32 = 1;
     let mut left = LISTS;
     while 0 < left {
         left -= 1;
-        let w = list_of(x, seen, &mut mem);
-        seen = w.seen;
-        seen.lists = plus(seen.lists, 1);
+        let w = list_of(x, &mut seen, &mut mem);
         x = w.random;
+        count(&mut seen, LISTED, 1);
+        count(&mut seen, MADE, w.made);
+        count(&mut seen, LOST, w.losses);
     }
-    report(seen);
+    print(b"# lists, # calls, # transport calls, # of them lost\nresult: reads, writes, connects, other calls\n0 Ok: #, #, #, #\n1 Transfer: #, #, #, #\n2 Wait: #, #, #, #\n3 NotSupported: #, #, #, #\n4 PowerUpTimeout: #, #, #, #\n5 CoreTimeout: #, #, #, #\n6 NoTarget: #, #, #, #\n7 Internal: #, #, #, #\n8 Range: #, #, #, #\n9 Align: #, #, #, #\n10 NoSession: #, #, #, #\n11 Spent: #, #, #, #\n12 TableEnd: #, #, #, #\nfailed half done: # reads, # writes\n# checks failed\n", &seen);
 }

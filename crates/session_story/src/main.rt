@@ -1,18 +1,20 @@
 // The accident that this project began with, step by step: the answer to a SELECT write is lost, and then the hours word is asked
 // for. Then lists of calls with their endings. The file stdout beside src/ has what 01 says of each.
-ghost use Prim.Native.Nat.{_≤_};
+//
+// The file stdin beside src/ has the titles, and the lists. First come the accident's title and those of its four calls. Then of each
+// list a line is its title; in the next line are five numbers: what the line does (1 WAIT; 30 a loss after delivery and 31 one before
+// it, both with ack 7), from which transport call on, and to how many (it delivers the others); how many bytes of the buffers are
+// shown; and how many calls there are, four at most. Then comes a line for each call: its number, budget, bytes, and first two
+// arguments. Numbers are decimal, or hexadecimal after 0x; what stands between them is not read.
+ghost use Prim.Native.Nat.{_<_, _≤_};
 use engine::NextStep;
 use numbers::{CallEnding, TransportCall};
-use session::{Reply, Session, SessionAnswer};
 use session_rules::SessionCall;
 use target::{Act, Delivered, Loss, Target};
 use transport::{Answer, Call};
 
 // Where the hours word lies, in 1 KiB of memory.
 const HOURS: u32 = 0x20000010;
-
-// The words of a call in a list.
-const ITEM: usize = 11;
 
 // A controller after a reset: not powered, another bank selected, an ID register's value left in the read buffer.
 fn controller() -> Target {
@@ -72,18 +74,106 @@ fn show_answer(a: Answer) {
     write(b"\n");
 }
 
-fn show_ending(e: CallEnding) {
-    io::print_decimal(1, e.number as u64);
-    write(b" ");
-    show_hex(e.value);
-}
-
 fn show_open(open: bool) {
     if open {
         write(b"open\n");
     } else {
         write(b"closed\n");
     }
+}
+
+// A result: its number and its value.
+fn show_result(number: u64, value: u64) {
+    io::print_decimal(1, number);
+    write(b" ");
+    io::print_hex(1, value, 8);
+}
+
+fn show_end(e: CallEnding, open: bool) {
+    write(b"    result ");
+    show_result(e.number as u64, e.value as u64);
+    write(b", session ");
+    show_open(open);
+}
+
+// The next byte of the input; 0 at its end.
+fn next_byte() -> u8 {
+    let mut b = [0u8; 1];
+    io::read_full(0, &mut b);
+    b[0]
+}
+
+// The next byte of a title, written out.
+fn title_byte() -> u8 {
+    let mut b = [0u8; 1];
+    io::read_full(0, &mut b);
+    if 32 <= b[0] {
+        write(&b);
+    }
+    b[0]
+}
+
+// Writes the next title, of at most 80 bytes; whether there is one.
+fn title() -> bool {
+    let mut left: u32 = 80;
+    while 0 < left {
+        left -= 1;
+        let b = title_byte();
+        if b < 32 {
+            return b == 10;
+        }
+    }
+    true
+}
+
+// A title on a line of its own.
+fn title_line() {
+    title();
+    write(b"\n");
+}
+
+// What a digit stands for; 16 where the byte is none.
+fn digit(b: u8) -> u32
+    ensures { λ r. ⌜ r ≤ 16 ⌝ }
+{
+    match b {
+        0x30..=0x39 => (b - 0x30) as u32,
+        0x41..=0x46 => (b - 0x37) as u32,
+        _ => 16,
+    }
+}
+
+// A number with a digit more.
+fn longer(value: u32, hex: bool, d: u32) -> u32
+    requires { ⌜ d < 16 ⌝ }
+{
+    if hex {
+        return value % 0x10000000 * 16 + d;
+    }
+    value % 0x10000000 * 10 + d
+}
+
+// The next number: of at most 64 bytes, with what stands before it and the byte behind it.
+fn next_number() -> u32 {
+    let mut value: u32 = 0;
+    let mut some = false;
+    let mut hex = false;
+    let mut left: u32 = 64;
+    while 0 < left {
+        left -= 1;
+        let b = next_byte();
+        let d = digit(b);
+        if d < 16 {
+            value = longer(value, hex, d);
+            some = true;
+        } else if some {
+            if b != 0x78 {
+                return value;
+            }
+            hex = true;
+        }
+    }
+    value
 }
 
 // Of a transport call the target sees the transfers; the others reach no register.
@@ -94,77 +184,12 @@ fn call_of(c: TransportCall) -> Call {
     Call::Connect
 }
 
-// The line delivers, but loses the answer of the transport call with the number `lost`.
-fn act(n: u32, lost: u32) -> Act {
-    if n == lost {
+// The line delivers, but loses the answer of the ninth transport call of all, in the first connect.
+fn act(n: u32) -> Act {
+    if n == 9 {
         return Act::Lose { delivered: true, error: Loss::Other };
     }
     Act::Deliver
-}
-
-// One transport call, shown with its answer.
-fn one_shown(t: Target, c: TransportCall, what: Act, mem: &mut [u8]) -> Delivered {
-    let d = target_line::over_line(t, call_of(c), what, mem);
-    let a = d.answer;
-    show_call(c);
-    show_answer(a);
-    d
-}
-
-// The transport call that is due.
-fn due_shown(t: Target, r: Reply, what: Act, mem: &mut [u8; 1024]) -> Delivered {
-    let next = r.next;
-    match next {
-        NextStep::Make(c) => one_shown(t, c, what, mem),
-        NextStep::Finish(_) => Delivered { target: t, answer: Answer::Other },
-    }
-}
-
-// How many of `n` transport calls may be made: none where none is due.
-fn allowed(r: Reply, n: u32) -> u32
-    ensures { λ k. ⌜ k ≤ n ⌝ }
-{
-    let next = r.next;
-    match next {
-        NextStep::Make(_) => n,
-        NextStep::Finish(_) => 0,
-    }
-}
-
-fn show_end(r: Reply, open: bool) {
-    let next = r.next;
-    match next {
-        NextStep::Make(_) => write(b"    no end"),
-        NextStep::Finish(e) => {
-            write(b"    result ");
-            show_ending(e);
-        }
-    }
-    write(b", session ");
-    show_open(open);
-}
-
-// A fresh session, which has nothing due.
-fn idle() -> SessionAnswer {
-    let none = CallEnding { number: 0, value: 0 };
-    SessionAnswer { session: session::fresh(), reply: Reply { next: NextStep::Finish(none), bytes: [0u8; 16] } }
-}
-
-// Start and step of a call that is lent no bytes.
-fn start(s: Session, c: SessionCall) -> SessionAnswer {
-    let mut none = [0u8; 0];
-    session::session_start(s, c, &mut none)
-}
-
-fn step(s: Session, a: Answer) -> SessionAnswer {
-    let mut none = [0u8; 0];
-    session::session_step(s, a, &mut none)
-}
-
-fn put(mem: &mut [u8; 1024], i: usize, v: u8) {
-    if i < 1024 {
-        mem[i] = v;
-    }
 }
 
 // The story's calls, by how many follow: connect and read, and the same afresh.
@@ -175,83 +200,74 @@ fn story_call(left: u32) -> SessionCall {
     SessionCall::ReadWord(HOURS)
 }
 
-fn show_title(left: u32) {
-    match left {
-        3 => write(b"  connect\n"),
-        1 => write(b"  clip and connect afresh\n"),
-        _ => write(b"  read the hours word\n"),
-    }
+// One transport call over the line, shown with its answer.
+fn one_shown(t: Target, c: TransportCall, n: u32, mem: &mut [u8]) -> Delivered {
+    let d = target_line::over_line(t, call_of(c), act(n), mem);
+    let a = d.answer;
+    show_call(c);
+    show_answer(a);
+    d
 }
 
-// The first connect loses the answer of its ninth transport call.
-fn lost_in(left: u32) -> u32 {
-    if left == 3 {
-        return 9;
-    }
-    0
-}
-
-// Every transport call is shown, at most 64 of a call.
+// Every transport call is shown; there are at most 64 of them and of endings. The calls are lent no bytes.
 fn tell(mem: &mut [u8; 1024]) {
-    let mut now = idle();
     let mut t = controller();
-    let mut left: u32 = 4;
-    while 0 < left {
-        left -= 1;
-        show_title(left);
-        now = start(now.session, story_call(left));
-        let mut n: u32 = 0;
-        let mut may = allowed(now.reply, 64);
-        while 0 < may {
-            n = std::num::wrapping_add_u32(n, 1);
-            let d = due_shown(t, now.reply, act(n, lost_in(left)), mem);
-            t = d.target;
-            let a = d.answer;
-            now = step(now.session, a);
-            may = allowed(now.reply, may - 1);
+    let mut left: u32 = 3;
+    title_line();
+    let mut none = [0u8; 0];
+    let mut now = session::session_start(session::fresh(), story_call(left), &mut none);
+    let mut n: u32 = 0;
+    while n < 64 {
+        n += 1;
+        let mut none = [0u8; 0];
+        let reply = now.reply;
+        let next = reply.next;
+        match next {
+            NextStep::Make(c) => {
+                let d = one_shown(t, c, n, mem);
+                t = d.target;
+                let a = d.answer;
+                now = session::session_step(now.session, a, &mut none);
+            }
+            NextStep::Finish(e) => {
+                show_end(e, session::open(now.session));
+                if left == 0 {
+                    return;
+                }
+                left -= 1;
+                title_line();
+                now = session::session_start(now.session, story_call(left), &mut none);
+            }
         }
-        show_end(now.reply, session::open(now.session));
     }
 }
 
 // The hours word is 0x00003039: 12,345 hours.
 fn accident() {
     let mut mem = [0u8; 1024];
-    put(&mut mem, 16, 0x39);
-    put(&mut mem, 17, 0x30);
-    write(b"the answer to the SELECT write is lost, though the controller did as told\n");
+    mem[16] = 0x39;
+    mem[17] = 0x30;
+    title_line();
     tell(&mut mem);
 }
 
-const ENOUGH: u32 = 200;
-
-// Acts of the line: WAIT, a loss after delivery and one before it, both with ack 7.
-const WAIT: u32 = 1;
-
-const LOST: u32 = 30;
-
-const UNSENT: u32 = 31;
-
-// A call of a list at place `at`: its number, budget, bytes and first two arguments.
-fn call(items: &mut [u32; 44], at: usize, number: u32, budget: u32, bytes: u32, a0: u32, a1: u32) {
-    if at <= 33 {
-        items[at] = number;
-        items[at + 1] = budget;
-        items[at + 2] = bytes;
-        items[at + 3] = a0;
-        items[at + 4] = a1;
-    }
-}
-
-// A connect, and room for three more calls.
-fn connected() -> [u32; 44] {
+// The records of a list: of the eleven words of a call the first five are read.
+fn items_of(calls: usize) -> [u32; 44] {
     let mut items = [0u32; 44];
-    call(&mut items, 0, 3, ENOUGH, 0, 0, 0);
+    let mut i: usize = 0;
+    while i < 44 {
+        if i / 11 < calls {
+            if i % 11 < 5 {
+                items[i] = next_number();
+            }
+        }
+        i += 1;
+    }
     items
 }
 
 // `count` acts from `from` on are `code`. A connect makes twelve transport calls.
-fn acts_of(from: usize, count: usize, code: u32) -> [u32; 96] {
+fn acts_of(code: u32, from: usize, count: usize) -> [u32; 96] {
     let mut acts = [0u32; 96];
     let mut left: usize = 96;
     while 0 < left {
@@ -272,9 +288,7 @@ fn show_results(results: &[u64], n: usize) {
     while i < results.len() {
         if i < n {
             write(b" ");
-            io::print_decimal(1, results[i] / 0x100000000);
-            write(b" ");
-            io::print_hex(1, results[i] % 0x100000000, 8);
+            show_result(results[i] / 0x100000000, results[i] % 0x100000000);
             write(b",");
         }
         i += 1;
@@ -308,15 +322,11 @@ fn run(items: &[u32], acts: &[u32], bytes: &mut [u8], results: &mut [u64]) -> Le
     Left { calls: r.calls, open: session::open(r.session) }
 }
 
-// Prints the results of a list, whether the session is open, and the first bytes of its buffers. The line does `code` for `count`
-// transport calls from call `from` on, and delivers the others.
-fn list(title: &[u8], items: &[u32; 44], from: usize, count: usize, code: u32, shown: usize) {
-    let acts = acts_of(from, count, code);
+// Runs a list; prints its results, the first bytes of its buffers, and whether the session is open.
+fn list_shown(items: &[u32; 44], acts: &[u32; 96], shown: usize) {
     let mut bytes = [0x11u8, 0x22, 0x33, 0x44, 0x55, 0x66, 0x77, 0x88, 0, 0, 0, 0, 0, 0, 0, 0];
     let mut results = [0u64; 4];
-    let r = run(items, &acts, &mut bytes, &mut results);
-    write(title);
-    write(b":");
+    let r = run(items, acts, &mut bytes, &mut results);
     show_results(&results, r.calls);
     write(b" ");
     if 0 < shown {
@@ -326,90 +336,26 @@ fn list(title: &[u8], items: &[u32; 44], from: usize, count: usize, code: u32, s
     show_open(r.open);
 }
 
-// The same over a line that delivers all.
-fn quiet(title: &[u8], items: &[u32; 44], shown: usize) {
-    list(title, items, 0, 0, 0, shown);
+// The next list, after its title.
+fn list() {
+    write(b":");
+    let code = next_number();
+    let from = next_number() as usize;
+    let acts = acts_of(code, from, next_number() as usize);
+    let shown = next_number() as usize;
+    let items = items_of(next_number() as usize);
+    list_shown(&items, &acts, shown);
 }
 
-fn refusals() {
-    let mut items = [0u32; 44];
-    call(&mut items, 0, 9, ENOUGH, 0, HOURS, 0);
-    quiet(b"a read before any connect", &items, 0);
-    call(&mut items, 0, 9, 0, 0, 0x20000001, 0);
-    quiet(b"the same, misaligned, with no budget", &items, 0);
-    items = connected();
-    call(&mut items, 11, 9, 0, 0, 0x20000001, 0);
-    quiet(b"misaligned, with no budget", &items, 0);
-    call(&mut items, 11, 13, 0, 4, 0xFFFFFFFC, 0);
-    quiet(b"four bytes at 0xFFFFFFFC", &items, 0);
-    call(&mut items, 11, 13, ENOUGH, 3, 0xFFFFFFFC, 0);
-    quiet(b"three bytes there, outside memory", &items, 0);
-    call(&mut items, 11, 13, 0, 0, HOURS, 0);
-    quiet(b"an empty read with no budget", &items, 0);
-}
-
-fn words() {
-    let mut items = connected();
-    call(&mut items, 11, 10, ENOUGH, 0, HOURS, 0x3039);
-    call(&mut items, 22, 9, ENOUGH, 0, HOURS, 0);
-    quiet(b"a word written and read", &items, 0);
-    call(&mut items, 11, 14, ENOUGH, 6, 0x20000003, 0);
-    call(&mut items, 22, 13, ENOUGH, 6, 0x20000003, 0);
-    quiet(b"six bytes written across words and read", &items, 12);
-    call(&mut items, 11, 14, ENOUGH, 8, 0x200003FC, 0);
-    call(&mut items, 22, 13, ENOUGH, 4, 0x200003FC, 0);
-    quiet(b"eight bytes written, four of them past the end", &items, 12);
-    call(&mut items, 11, 9, ENOUGH, 0, 0x30000000, 0);
-    call(&mut items, 22, 9, ENOUGH, 0, HOURS, 0);
-    quiet(b"a read outside memory, FAULT, and one inside", &items, 0);
-}
-
-fn waits() {
-    let mut items = connected();
-    call(&mut items, 11, 9, ENOUGH, 0, HOURS, 0);
-    call(&mut items, 22, 9, ENOUGH, 0, HOURS, 0);
-    list(b"64 WAITs", &items, 12, 64, WAIT, 0);
-    list(b"65 WAITs", &items, 12, 65, WAIT, 0);
-}
-
-fn losses() {
-    let mut items = connected();
-    call(&mut items, 11, 9, ENOUGH, 0, HOURS, 0);
-    call(&mut items, 22, 9, ENOUGH, 0, HOURS, 0);
-    list(b"the answer to CSW lost", &items, 12, 1, LOST, 0);
-    list(b"CSW not sent", &items, 12, 1, UNSENT, 0);
-    list(b"a read's last answer lost", &items, 15, 1, LOST, 0);
-    list(b"SELECT not sent", &items, 8, 1, UNSENT, 0);
-    list(b"WAIT for a line reset", &items, 1, 1, WAIT, 0);
-    call(&mut items, 11, 9, ENOUGH, 0, 0x30000000, 0);
-    list(b"FAULT, and its ABORT lost", &items, 16, 1, UNSENT, 0);
-    call(&mut items, 11, 3, ENOUGH, 0, 0, 0);
-    list(b"a second connect, lost at once", &items, 12, 1, UNSENT, 0);
-    call(&mut items, 11, 24, ENOUGH, 0, 2, 0);
-    list(b"call 24: a loss in its wait, then FAULT", &items, 13, 1, UNSENT, 0);
-}
-
-fn spent() {
-    let mut items = connected();
-    call(&mut items, 11, 9, 3, 0, HOURS, 0);
-    call(&mut items, 22, 9, ENOUGH, 0, HOURS, 0);
-    quiet(b"a read that needs four transport calls, with three", &items, 0);
-    call(&mut items, 11, 9, 4, 0, HOURS, 0);
-    quiet(b"with four", &items, 0);
-    call(&mut items, 0, 3, 11, 0, 0, 0);
-    quiet(b"a connect that needs twelve, with eleven", &items, 0);
-    items = connected();
-    call(&mut items, 11, 14, ENOUGH, 8, HOURS, 0);
-    call(&mut items, 22, 3, ENOUGH, 0, 0, 0);
-    call(&mut items, 33, 13, ENOUGH, 8, HOURS, 0);
-    list(b"a write lost at its second word, connect, read back", &items, 15, 1, LOST, 16);
-}
-
+// At most 100 lists.
 fn main() {
     accident();
-    refusals();
-    words();
-    waits();
-    losses();
-    spent();
+    let mut left: u32 = 100;
+    while 0 < left {
+        left -= 1;
+        if !title() {
+            return;
+        }
+        list();
+    }
 }

@@ -5,14 +5,12 @@ use Rattle.session_soak.proofs.memory_kept.Statement.{statement}
 use Rattle.session_soak.proofs.memory_kept.Tie as tie
 
 abbrev Inv-loop : tie.InvT-loop
-Inv-loop writes ok addr len before after given i₀ i = i ≤ 128
+Inv-loop writes ok from len before after given good₀ i₀ good i = i ≤ 128
 
 abbrev μ-loop : tie.MeasureT-loop
-μ-loop writes ok addr len before after given i₀ i = 128 - i
+μ-loop writes ok from len before after given good₀ i₀ good i = 128 - i
 
 pub memory-kept-spec : {M : Type 1} → statement M
-memory-kept-spec =
-    tie.close (tie.spec
-    Inv-loop μ-loop (λ c κs. search needs) (λ c. search needs) (λ c. search needs) (λ c. search needs) (λ c κs. search needs)
-    (λ c κs. search needs) (λ c κs. search needs) (λ c κs. search needs) (λ c κs. search needs) (λ c. search needs) (λ c. search needs)
-    (λ c. search needs) (λ c. search needs) (λ c. search needs))
+memory-kept-spec = tie.close (tie.spec
+    Inv-loop μ-loop (λ c κs. search needs) (λ c. search needs) (λ c κs. search needs) (λ c κs. search needs) (λ c κs. search needs)
+    (λ c κs. search needs) (λ c κs. search needs) (λ c. search needs) (λ c. search needs) (λ c. search needs) (λ c. search needs))

@@ -1,16 +1,16 @@
+-- The places left go down, from 96.
 use borrow.Author.Needs.{needs}
 use Prim.Native.Nat.{_≤_}
 use Rattle.session_story.proofs.acts_of.Statement.{statement}
 use Rattle.session_story.proofs.acts_of.Tie as tie
 
 abbrev Inv-loop : tie.InvT-loop
-Inv-loop from count code acts₀ left₀ acts left = left ≤ 96
+Inv-loop code from count acts₀ left₀ acts left = left ≤ 96
 
 abbrev μ-loop : tie.MeasureT-loop
-μ-loop from count code acts₀ left₀ acts left = left
+μ-loop code from count acts₀ left₀ acts left = left
 
 pub acts-of-spec : {M : Type 1} → statement M
-acts-of-spec =
-    tie.close (tie.spec
+acts-of-spec = tie.close (tie.spec
     Inv-loop μ-loop (λ c. search needs) (λ c. search needs) (λ c. search needs) (λ c. search needs) (λ c. search needs) (λ c. search needs)
     (λ c. search needs) (λ c. search needs) (λ c. search needs) (λ c. search needs) (λ c. search needs) (λ c. search needs) (λ c. search needs))

@@ -11,7 +11,6 @@ abbrev μ-loop : tie.MeasureT-loop
 μ-loop bytes n i₀ i = length bytes - i
 
 pub show-bytes-spec : {M : Type 1} → statement M
-show-bytes-spec =
-    tie.close (tie.spec
-    Inv-loop μ-loop (λ c. search needs) (λ c. search needs) (λ c κs. search needs) (λ c κs. search needs) (λ c. search needs) (λ c. search needs)
-    (λ c. search needs) (λ c. search needs))
+show-bytes-spec = tie.close (tie.spec
+    Inv-loop μ-loop (λ c. search needs) (λ c. search needs) (λ c κs. search needs) (λ c κs. search needs) (λ c. search needs)
+    (λ c. search needs) (λ c. search needs) (λ c. search needs))
