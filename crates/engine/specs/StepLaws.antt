@@ -1,6 +1,7 @@
 -- What comes next in the tree of a transfer in flight is the transport call that is due; and where one is due, the call is under way.
 -- Serves the proofs only.
 use Prim.Native.Nat.{ℕ}
+use mathlib.Core.Bool.{Bool, true, false}
 use mathlib.Core.List.{List, []}
 use mathlib.Core.Path.{_≡_, refl, sym, ap, subst, _∙_}
 use native.Mathlib.Omega.{arith}
@@ -51,15 +52,25 @@ flies w s ws b e h = e ∙ status-flies (s .status) (flightTree s ws b) (memoryO
 pub ended-tree : (o : Outcome) (s : State) (ws b : List ℕ) → s .status ≡ Ended o → done (memoryOf (s .remembered) ws b) o ≡ stateTree s ws b
 ended-tree o s ws b h = ap (λ (d : Status). statusTree d (flightTree s ws b) (memoryOf (s .remembered) ws b)) (sym h)
 
--- an answer that tells the ending, and leaves the state
-pub tells-end : (o : Outcome) (s : State) (ws b : List ℕ) (e : CallEnding) → e ≡ resultOf o → s .status ≡ Ended o
-  → Steps (stateTree s ws b) (record { next = N.Finish e; state = s; bytes = padded [] }) ws b
-tells-end o s ws b e g h =
-    subst (λ (w : Wire). Steps w (record { next = N.Finish e; state = s; bytes = padded [] }) ws b) (ended-tree o s ws b h)
-    (record { next = ap N.Finish g; bytes = refl; memory = refl; tree = ended-tree o s ws b h })
+-- a step of a call that has ended
+pub ends-again : (s : State) (o : Outcome) (a : Answer) (e : CallEnding) (row words buf : List ℕ) → s .status ≡ Ended o → e ≡ resultOf o
+  → Stepped s a (record { next = N.Finish e; state = s; bytes = padded [] }) row words buf row words buf
+ends-again s o a e row words buf h g = record {
+    lent = record {
+      steps = subst (λ (w : Wire). Steps (follow w a) (record { next = N.Finish e; state = s; bytes = padded [] }) ws buf) tree
+        (record { next = ap N.Finish g; bytes = refl; memory = refl; tree = tree });
+      other = refl;
+      whose = refl };
+    stays = λ _ _. refl }
+  where
+    ws : List ℕ
+    ws = pick (s .own) words row
 
--- a step of a call under way
-pub moves : (s : State) (a : Answer) (x : StepAnswer) (row₀ words₀ buf₀ row words buf : List ℕ) → s .status ≡ Running
+    tree : done (memoryOf (s .remembered) ws buf) o ≡ stateTree s ws buf
+    tree = ended-tree o s ws buf h
+
+-- a step of one under way, over the caller's words or over the row
+moves : (s : State) (a : Answer) (x : StepAnswer) (row₀ words₀ buf₀ row words buf : List ℕ) → s .status ≡ Running
   → Lent (s .own) (follow (flightTree s (pick (s .own) words₀ row₀) buf₀) a) x row₀ words₀ row words buf
   → Stepped s a x row₀ words₀ buf₀ row words buf
 moves s a x row₀ words₀ buf₀ row words buf h l = record {
@@ -73,15 +84,14 @@ moves s a x row₀ words₀ buf₀ row words buf h l = record {
     flight : Wire
     flight = flightTree s ws buf₀
 
--- a step of one that has ended
-pub stays-ended : (s : State) (o : Outcome) (a : Answer) (x : StepAnswer) (row words buf : List ℕ) → s .status ≡ Ended o
-  → ((ws b : List ℕ) → s .status ≡ Ended o → Steps (stateTree s ws b) x ws b) × (x .state ≡ s) → Stepped s a x row words buf row words buf
-stays-ended s o a x row words buf h y = record {
-    lent = record {
-      steps = subst (λ (w : Wire). Steps w x ws buf) (subst (λ (w : Wire). w ≡ follow w a) (ended-tree o s ws buf h) refl) (y .0 ws buf h);
-      other = refl;
-      whose = ap (λ (z : State). z .own) (y .1) };
-    stays = λ _ _. y .1 }
-  where
-    ws : List ℕ
-    ws = pick (s .own) words row
+pub moves-words : (s : State) (a : Answer) (x : StepAnswer) (row words₀ buf₀ words buf : List ℕ) → s .status ≡ Running → s .own ≡ true
+  → Steps (follow (flightTree s words₀ buf₀) a) x words buf × (x .state .own ≡ s .own) → Stepped s a x row words₀ buf₀ row words buf
+moves-words s a x row words₀ buf₀ words buf h own l = moves s a x row words₀ buf₀ row words buf h
+    (subst (λ (b : Bool). Lent b (follow (flightTree s (pick b words₀ row) buf₀) a) x row words₀ row words buf) (sym own)
+    (record { steps = l .0; other = refl; whose = l .1 ∙ own }))
+
+pub moves-row : (s : State) (a : Answer) (x : StepAnswer) (row₀ words buf₀ row buf : List ℕ) → s .status ≡ Running → s .own ≡ false
+  → Steps (follow (flightTree s row₀ buf₀) a) x row buf × (x .state .own ≡ s .own) → Stepped s a x row₀ words buf₀ row words buf
+moves-row s a x row₀ words buf₀ row buf h own l = moves s a x row₀ words buf₀ row words buf h
+    (subst (λ (b : Bool). Lent b (follow (flightTree s (pick b words row₀) buf₀) a) x row₀ words row words buf) (sym own)
+    (record { steps = l .0; other = refl; whose = l .1 ∙ own }))

@@ -9,10 +9,9 @@ ghost use Rattle.memap.specs.Flight.{startedTree};
 ghost use Rattle.jobs.specs.Change.{fresh};
 ghost use Rattle.jobs.specs.Job.{exec};
 ghost use Rattle.jobs.specs.Asks.{thenOf, nextJob};
-ghost use Rattle.calls.specs.Calls.{jobOf, lent, pick, callTree};
+ghost use Rattle.calls.specs.Calls.{jobOf, lent, callTree};
 ghost use Rattle.calls.specs.After.{callAfter, asksJob};
-ghost use Rattle.engine.specs.State.{flightTree, stateTree};
-ghost use Rattle.engine.specs.declared.Status.the-variants.{Ended};
+ghost use Rattle.engine.specs.State.{flightTree};
 ghost use Rattle.engine.specs.Step.{Steps, Lent, Stepped};
 use calls::{Asks, At, EngineCall};
 use jobs::Next;
@@ -125,24 +124,6 @@ pub fn start(r: Remembered, c: EngineCall, row: &mut [u32; 64], words: &mut [u32
     start_over(r, c, false, n, row, buf)
 }
 
-// A call that has ended answers its ending again.
-fn stay(s: State, o: Outcome) -> StepAnswer
-    ensures { λ x. ⌜ ((ws b : List ℕ) → s .status ≡ Ended o → Steps (stateTree s ws b) x ws b) × (x .state ≡ s) ⌝ }
-{
-    let e = numbers::result_of(o);
-    StepAnswer { next: NextStep::Finish(e), state: s, bytes: [0u8; 16] }
-}
-
-// One step of a call under way, over the words that its state names.
-fn go_on(s: State, a: Answer, row: &mut [u32; 64], words: &mut [u32], buf: &mut [u8]) -> StepAnswer
-    ensures { λ x. ⌜ Lent (s .own) (follow (flightTree s (pick (s .own) (now (words .entry)) (now (row .entry))) (now (buf .entry))) a) x (now (row .entry)) (now (words .entry)) (now (row .exit)) (now (words .exit)) (now (buf .exit)) ⌝ }
-{
-    if s.own {
-        return step_over(s, a, words, buf);
-    }
-    step_over(s, a, row, buf)
-}
-
 // One step: the last answer in, the next transport call or the ending out. A call that has ended answers its ending again, makes
 // no transport call and changes nothing.
 pub fn step(s: State, a: Answer, row: &mut [u32; 64], words: &mut [u32], buf: &mut [u8]) -> StepAnswer
@@ -150,7 +131,15 @@ pub fn step(s: State, a: Answer, row: &mut [u32; 64], words: &mut [u32], buf: &m
 {
     let status = s.status;
     match status {
-        Status::Running => go_on(s, a, row, words, buf),
-        Status::Ended(o) => stay(s, o),
+        Status::Ended(o) => {
+            let e = numbers::result_of(o);
+            StepAnswer { next: NextStep::Finish(e), state: s, bytes: [0u8; 16] }
+        }
+        Status::Running => {
+            if s.own {
+                return step_over(s, a, words, buf);
+            }
+            step_over(s, a, row, buf)
+        }
     }
 }

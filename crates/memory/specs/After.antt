@@ -10,6 +10,7 @@ use Rattle.memory.specs.Memory.{memFrom}
 use Rattle.memory.specs.declared.Mem.{Mem}
 use Rattle.memory.specs.declared.MemoryAt.{MemoryAt}
 use Rattle.memory.specs.declared.MemoryAt.the-variants as A
+use Rattle.memory.specs.declared.TurnStep.the-variants as T
 
 -- the address and the place in the buffer of the turn m
 abbrev pub addrOf : Mem → ℕ
@@ -24,13 +25,13 @@ rest read m moved = memFrom read (m .stop) (m .len) (m .left - moved) 0
 
 abbrev pub goesOn : MemoryAt → ℕ → Job
 goesOn A.Whole v = return v
-goesOn (A.ReadRun m) v = keeping (C.StoreWords (placeOf m) (m .size)) >> rest true m (4 * m .size)
-goesOn (A.ReadPart m) v = keeping (C.StorePart (placeOf m) (addrOf m % 4) (m .size) v) >> rest true m (m .size)
-goesOn (A.WriteRun m) v = rest false m (4 * m .size)
-goesOn (A.PartRead m) v =
+goesOn (A.Turn T.ReadRun m) v = keeping (C.StoreWords (placeOf m) (m .size)) >> rest true m (4 * m .size)
+goesOn (A.Turn T.ReadPart m) v = keeping (C.StorePart (placeOf m) (addrOf m % 4) (m .size) v) >> rest true m (m .size)
+goesOn (A.Turn T.WriteRun m) v = rest false m (4 * m .size)
+goesOn (A.Turn T.PartRead m) v =
     keeping (C.Patch (placeOf m) (addrOf m % 4) (m .size) v)
     >> (just (O.WriteWords (addrOf m - addrOf m % 4) 1 0) >> rest false m (m .size))
-goesOn (A.PartWritten m) v = rest false m (m .size)
+goesOn (A.Turn T.PartWritten m) v = rest false m (m .size)
 
 abbrev pub memoryAfter : MemoryAt → Outcome → Job
 memoryAfter p (Value v) = goesOn p v

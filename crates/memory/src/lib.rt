@@ -12,7 +12,8 @@ ghost use Rattle.jobs.specs.Asks.{asks, keepSome};
 ghost use Rattle.jobs.specs.declared.Change.the-variants.{Nothing};
 ghost use Rattle.memory.specs.Memory.{memoryJob, readWords, writeWords, inRange, mem, memFrom, moveRun, moveBytes, runWords};
 ghost use Rattle.memory.specs.After.{memoryAfter, goesOn, addrOf, placeOf, rest};
-ghost use Rattle.memory.specs.declared.MemoryAt.the-variants.{ReadRun, ReadPart, PartRead};
+ghost use Rattle.memory.specs.declared.MemoryAt.the-variants.{Turn};
+ghost use Rattle.memory.specs.declared.TurnStep.the-variants.{ReadRun, ReadPart, PartRead};
 use jobs::{Change, Next};
 use memap::Op;
 use transport::{ArmError, Outcome};
@@ -39,14 +40,20 @@ pub struct Mem {
     pub size: u32,
 }
 
+// What a turn's operation does: words or a part of one are read, words are written, or the word around a part is read and
+// then written back.
+pub enum TurnStep {
+    ReadRun,
+    ReadPart,
+    WriteRun,
+    PartRead,
+    PartWritten,
+}
+
 // Which operation of a call is in flight. `Whole`: its outcome is the call's.
 pub enum MemoryAt {
     Whole,
-    ReadRun(Mem),
-    ReadPart(Mem),
-    WriteRun(Mem),
-    PartRead(Mem),
-    PartWritten(Mem),
+    Turn { step: TurnStep, mem: Mem },
 }
 
 // What a call asks for: a change, and then an operation or its end.
@@ -109,11 +116,11 @@ fn move_run(read: bool, m: Mem) -> MemoryAsks
     let last = memap::minus(n, 1);
     if read {
         let op = Op::ReadWords { addr: addr, n: n, last: last };
-        return MemoryAsks { change: Change::Nothing, at: MemoryAt::ReadRun(m), next: Next::Do(op) };
+        return MemoryAsks { change: Change::Nothing, at: MemoryAt::Turn { step: TurnStep::ReadRun, mem: m }, next: Next::Do(op) };
     }
     let load = Change::LoadWords { at: memap::minus(m.len, m.left), n: n };
     let op = Op::WriteWords { addr: addr, n: n, last: last };
-    MemoryAsks { change: load, at: MemoryAt::WriteRun(m), next: Next::Do(op) }
+    MemoryAsks { change: load, at: MemoryAt::Turn { step: TurnStep::WriteRun, mem: m }, next: Next::Do(op) }
 }
 
 // A turn that moves a part of a word. To be written too, the word is read first.
@@ -124,9 +131,9 @@ fn move_bytes(read: bool, m: Mem) -> MemoryAsks
     let addr = memap::minus(m.stop, m.left);
     let op = Op::ReadWord { addr: addr - addr % 4 };
     if read {
-        return MemoryAsks { change: Change::Nothing, at: MemoryAt::ReadPart(m), next: Next::Do(op) };
+        return MemoryAsks { change: Change::Nothing, at: MemoryAt::Turn { step: TurnStep::ReadPart, mem: m }, next: Next::Do(op) };
     }
-    MemoryAsks { change: Change::Nothing, at: MemoryAt::PartRead(m), next: Next::Do(op) }
+    MemoryAsks { change: Change::Nothing, at: MemoryAt::Turn { step: TurnStep::PartRead, mem: m }, next: Next::Do(op) }
 }
 
 // The turn with `left` bytes to go. One that reads changes nothing before its operation.
@@ -215,7 +222,7 @@ fn stored(change: Change, stop: u32, len: u32, left: u32) -> MemoryAsks
 
 // The words that a run has read are stored.
 fn run_read(m: Mem) -> MemoryAsks
-    ensures { λ r. ⌜ goesOn (ReadRun m) 0 ≡ asks (r .change) (r .next) (memoryAfter (r .at)) ⌝ }
+    ensures { λ r. ⌜ goesOn (Turn ReadRun m) 0 ≡ asks (r .change) (r .next) (memoryAfter (r .at)) ⌝ }
 {
     let place = memap::minus(m.len, m.left);
     stored(Change::StoreWords { at: place, n: m.size }, m.stop, m.len, minus_words(m.left, m.size))
@@ -223,7 +230,7 @@ fn run_read(m: Mem) -> MemoryAsks
 
 // A part of the word that was read is stored.
 fn part_read(m: Mem, word: u32) -> MemoryAsks
-    ensures { λ r. ⌜ goesOn (ReadPart m) word ≡ asks (r .change) (r .next) (memoryAfter (r .at)) ⌝ }
+    ensures { λ r. ⌜ goesOn (Turn ReadPart m) word ≡ asks (r .change) (r .next) (memoryAfter (r .at)) ⌝ }
 {
     let skip = memap::minus(m.stop, m.left) % 4;
     let place = memap::minus(m.len, m.left);
@@ -232,14 +239,27 @@ fn part_read(m: Mem, word: u32) -> MemoryAsks
 
 // A part of the word that was read is replaced, and the word is written back.
 fn patched(m: Mem, word: u32) -> MemoryAsks
-    ensures { λ r. ⌜ goesOn (PartRead m) word ≡ asks (r .change) (r .next) (memoryAfter (r .at)) ⌝ }
+    ensures { λ r. ⌜ goesOn (Turn PartRead m) word ≡ asks (r .change) (r .next) (memoryAfter (r .at)) ⌝ }
 {
     let addr = memap::minus(m.stop, m.left);
     let skip = addr % 4;
     let place = memap::minus(m.len, m.left);
     let patch = Change::Patch { at: place, skip: skip, count: m.size, word: word };
     let op = Op::WriteWords { addr: addr - skip, n: 1, last: 0 };
-    MemoryAsks { change: patch, at: MemoryAt::PartWritten(m), next: Next::Do(op) }
+    MemoryAsks { change: patch, at: MemoryAt::Turn { step: TurnStep::PartWritten, mem: m }, next: Next::Do(op) }
+}
+
+// What follows a turn's operation that gave the value `v`.
+fn turn_after(step: TurnStep, m: Mem, v: u32) -> MemoryAsks
+    ensures { λ r. ⌜ goesOn (Turn step m) v ≡ asks (r .change) (r .next) (memoryAfter (r .at)) ⌝ }
+{
+    match step {
+        TurnStep::ReadRun => run_read(m),
+        TurnStep::ReadPart => part_read(m, v),
+        TurnStep::WriteRun => mem_on(false, m.stop, m.len, minus_words(m.left, m.size)),
+        TurnStep::PartRead => patched(m, v),
+        TurnStep::PartWritten => mem_on(false, m.stop, m.len, memap::minus(m.left, m.size)),
+    }
 }
 
 // What a call in flight asks for, now that its operation has ended.
@@ -250,11 +270,7 @@ pub fn call_after(p: MemoryAt, o: Outcome) -> MemoryAsks
         Outcome::Failed(e) => ended(Outcome::Failed(e)),
         Outcome::Value(v) => match p {
             MemoryAt::Whole => ended(Outcome::Value(v)),
-            MemoryAt::ReadRun(m) => run_read(m),
-            MemoryAt::ReadPart(m) => part_read(m, v),
-            MemoryAt::WriteRun(m) => mem_on(false, m.stop, m.len, minus_words(m.left, m.size)),
-            MemoryAt::PartRead(m) => patched(m, v),
-            MemoryAt::PartWritten(m) => mem_on(false, m.stop, m.len, memap::minus(m.left, m.size)),
+            MemoryAt::Turn { step, mem } => turn_after(step, mem, v),
         },
     }
 }

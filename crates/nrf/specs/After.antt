@@ -17,6 +17,8 @@ use Rattle.nrf.specs.declared.Chip.the-variants.{Nrf52, Nrf54}
 use Rattle.nrf.specs.declared.Program.{Program}
 use Rattle.nrf.specs.declared.Flash.{Flash}
 use Rattle.nrf.specs.declared.Flash.the-variants as F
+use Rattle.nrf.specs.declared.FlashStep.{FlashStep}
+use Rattle.nrf.specs.declared.FlashStep.the-variants as S
 use Rattle.nrf.specs.declared.NrfAt.{NrfAt}
 use Rattle.nrf.specs.declared.NrfAt.the-variants as A
 
@@ -81,6 +83,11 @@ abbrev pub enabling : Chip → Program → Job
 enabling Nrf52 p = writeWord nrf52.NVMC-CONFIG nrf52.NVMC-CONFIG-WEN >> waiting Nrf52 (F.Words p) (p .polls)
 enabling Nrf54 p = writeWord nrf54.RRAMC-CONFIG nrf54.RRAMC-CONFIG-WEN >> programming Nrf54 p
 
+abbrev pub flashAfter : FlashStep → Chip → Flash → ℕ → Job
+flashAfter (S.Settle polls) chip then v = waiting chip then polls
+flashAfter (S.Wait left) chip then v = afterReady chip then left v
+flashAfter S.Next chip then v = flashing chip then
+
 abbrev pub goesOn : NrfAt → ℕ → Job
 goesOn A.Idr v = readStatus (eqb v nrf52.CTRLAP-IDR-VALUE)
 goesOn (A.Status known) v = leaves (Value (answer known v))
@@ -88,9 +95,7 @@ goesOn (A.EraseAll polls) v = pollErased polls
 goesOn (A.Erasing left) v = afterErased left v
 goesOn (A.Reset erased) v = releasing erased
 goesOn (A.Release erased) v = released erased
-goesOn (A.Settle chip then polls) v = waiting chip then polls
-goesOn (A.Wait chip then left) v = afterReady chip then left v
-goesOn (A.Next chip then) v = flashing chip then
+goesOn (A.Flash step chip then) v = flashAfter step chip then v
 goesOn A.Last v = return 0
 
 abbrev pub nrfAfter : NrfAt → Outcome → Job

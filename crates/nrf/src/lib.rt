@@ -9,7 +9,7 @@ ghost use Rattle.memap.specs.Words.{tarRun};
 ghost use Rattle.jobs.specs.Asks.{asks, opThen};
 ghost use Rattle.jobs.specs.Job.{ends};
 ghost use Rattle.nrf.specs.Nrf.{nrfJob, nrf52ApprotectStatus, nrf54ApprotectStatus, readStatus, softReset, pollErased, eraseAll, nrf52ErasePage, programmable};
-ghost use Rattle.nrf.specs.After.{nrfAfter, goesOn, onPort, leaves, afterErased, releasing, released, config, ready, closing, writes, finishing, programming, flashing, waiting, afterReady, enabling};
+ghost use Rattle.nrf.specs.After.{nrfAfter, goesOn, onPort, leaves, afterErased, releasing, released, config, ready, closing, writes, finishing, programming, flashing, waiting, afterReady, flashAfter, enabling};
 ghost use Rattle.nrf.specs.declared.NrfAt.the-variants.{Status};
 mod nrf52;
 mod nrf54;
@@ -48,8 +48,15 @@ pub enum Flash {
     Close,
 }
 
-// Which operation of a call is in flight. `Settle`: a write to the flash, after which `polls` reads wait for READY. `Wait`: one
-// of these, with `left` more. `Next`: a write to the flash with no wait after it. `Last`: the call's last write.
+// What waits for the flash before `then`. `Settle`: a write, after which so many reads wait for READY. `Wait`: one of these, with
+// so many more. `Next`: a write with no wait after it.
+pub enum FlashStep {
+    Settle(u32),
+    Wait(u32),
+    Next,
+}
+
+// Which operation of a call is in flight. `Last`: the call's last write.
 pub enum NrfAt {
     Idr,
     Status(bool),
@@ -57,9 +64,7 @@ pub enum NrfAt {
     Erasing(u32),
     Reset(bool),
     Release(bool),
-    Settle { chip: Chip, then: Flash, polls: u32 },
-    Wait { chip: Chip, then: Flash, left: u32 },
-    Next { chip: Chip, then: Flash },
+    Flash { step: FlashStep, chip: Chip, then: Flash },
     Last,
 }
 
@@ -237,7 +242,7 @@ fn finish(chip: Chip, polls: u32) -> NrfAsks
     match chip {
         Chip::Nrf52 => close(chip),
         Chip::Nrf54 => {
-            let at = NrfAt::Settle { chip: chip, then: Flash::Close, polls: polls };
+            let at = NrfAt::Flash { step: FlashStep::Settle(polls), chip: chip, then: Flash::Close };
             doing(at, Op::WriteWord { addr: nrf54::RRAMC_COMMIT, word: 1 })
         }
     }
@@ -248,8 +253,8 @@ fn settled(chip: Chip, then: Flash, polls: u32, write: Op) -> NrfAsks
     ensures { λ r. ⌜ writes chip write polls then ≡ asks (r .change) (r .next) (nrfAfter (r .at)) ⌝ }
 {
     match chip {
-        Chip::Nrf52 => doing(NrfAt::Settle { chip: Chip::Nrf52, then: then, polls: polls }, write),
-        Chip::Nrf54 => doing(NrfAt::Next { chip: Chip::Nrf54, then: then }, write),
+        Chip::Nrf52 => doing(NrfAt::Flash { step: FlashStep::Settle(polls), chip: Chip::Nrf52, then: then }, write),
+        Chip::Nrf54 => doing(NrfAt::Flash { step: FlashStep::Next, chip: Chip::Nrf54, then: then }, write),
     }
 }
 
@@ -274,7 +279,7 @@ fn flash_on(chip: Chip, then: Flash) -> NrfAsks
 {
     match then {
         Flash::Page { page, polls } => {
-            let at = NrfAt::Settle { chip: chip, then: Flash::Close, polls: polls };
+            let at = NrfAt::Flash { step: FlashStep::Settle(polls), chip: chip, then: Flash::Close };
             doing(at, Op::WriteWord { addr: nrf52::NVMC_ERASEPAGE, word: page })
         }
         Flash::Words(p) => words_on(chip, p),
@@ -290,7 +295,7 @@ fn wait_on(chip: Chip, then: Flash, left: u32) -> NrfAsks
         return ended(Outcome::Failed(ArmError::CoreTimeout));
     }
     let addr = ready_of(chip);
-    doing(NrfAt::Wait { chip: chip, then: then, left: left - 1 }, Op::ReadWord { addr: addr })
+    doing(NrfAt::Flash { step: FlashStep::Wait(left - 1), chip: chip, then: then }, Op::ReadWord { addr: addr })
 }
 
 // READY is read: the flash is ready, or it is read again.
@@ -340,7 +345,7 @@ fn erase_page(addr: u32, polls: u32) -> NrfAsks
     ensures { λ r. ⌜ nrf52ErasePage addr polls ≡ asks (r .change) (r .next) (nrfAfter (r .at)) ⌝ }
 {
     let then = Flash::Page { page: addr - addr % nrf52::FLASH_PAGE, polls: polls };
-    let at = NrfAt::Settle { chip: Chip::Nrf52, then: then, polls: polls };
+    let at = NrfAt::Flash { step: FlashStep::Settle(polls), chip: Chip::Nrf52, then: then };
     doing(at, Op::WriteWord { addr: nrf52::NVMC_CONFIG, word: nrf52::NVMC_CONFIG_EEN })
 }
 
@@ -359,6 +364,17 @@ pub fn start(c: NrfCall, words: usize) -> NrfAsks
     }
 }
 
+// What follows an operation of the flash that gave the value `v`.
+fn flash_after(step: FlashStep, chip: Chip, then: Flash, v: u32) -> NrfAsks
+    ensures { λ r. ⌜ flashAfter step chip then v ≡ asks (r .change) (r .next) (nrfAfter (r .at)) ⌝ }
+{
+    match step {
+        FlashStep::Settle(polls) => wait_on(chip, then, polls),
+        FlashStep::Wait(left) => ready_by(chip, then, left, v),
+        FlashStep::Next => flash_on(chip, then),
+    }
+}
+
 // What follows an operation that gave the value `v`.
 fn value_after(p: NrfAt, v: u32) -> NrfAsks
     ensures { λ r. ⌜ goesOn p v ≡ asks (r .change) (r .next) (nrfAfter (r .at)) ⌝ }
@@ -370,9 +386,7 @@ fn value_after(p: NrfAt, v: u32) -> NrfAsks
         NrfAt::Erasing(left) => erased_by(left, v),
         NrfAt::Reset(erased) => release_on(erased),
         NrfAt::Release(erased) => release_by(erased),
-        NrfAt::Settle { chip, then, polls } => wait_on(chip, then, polls),
-        NrfAt::Wait { chip, then, left } => ready_by(chip, then, left, v),
-        NrfAt::Next { chip, then } => flash_on(chip, then),
+        NrfAt::Flash { step, chip, then } => flash_after(step, chip, then, v),
         NrfAt::Last => ended(Outcome::Value(0)),
     }
 }

@@ -1,5 +1,5 @@
--- The status says whether the call goes on (`go_on`) or has ended (`stay`).
-use Rattle.engine.specs.StepLaws.{moves, stays-ended}
+-- The status says whether the call has ended or goes on, and its state which words it goes on over.
+use Rattle.engine.specs.StepLaws.{ends-again, moves-words, moves-row}
 use borrow.Author.Needs.{needs}
 use Rattle.engine.proofs.step.Statement.{statement}
 use Rattle.engine.proofs.step.Tie as tie
@@ -8,6 +8,12 @@ pub step-spec : {M : Type 1} → statement M
 step-spec =
     tie.close (tie.spec
     (λ c. search needs) (λ c κs. search needs) (λ c. search needs) (λ c κs. search needs) (λ c. search needs) (λ c. search needs)
-    (λ c. moves _ _ _ _ _ _ _ _ _ (c .before .before .before .before .before .before .before .before .enum-told .given .1)
-      (c .before .before .before .before .go-on .ensures))
-    (λ c. stays-ended _ _ _ _ _ _ _ (c .before .before .status .given .1) (c .stay .ensures)))
+    (λ c. let t = c .before .before .before .before in
+    moves-words _ _ _ _ _ _ _ _ (t .before .before .before .before .enum-told .given .1) (t .before .before .before .if1 .taken)
+      (t .step-over .ensures))
+    (λ c κs. search needs)
+    (λ c. ends-again _ _ _ _ _ _ _ (c .before .before .status .given .1) (c .result-of .ensures))
+    (λ c. search needs)
+    (λ c. let t = c .before .before in
+    moves-row _ _ _ _ _ _ _ _ (t .before .before .before .before .enum-told .given .1) (t .before .before .before .if1 .left)
+      (t .step-over2 .ensures)))
