@@ -139,6 +139,14 @@ fn over_row(s: State) -> State
     State { remembered: r, status: status, at: at, started: started, own: false }
 }
 
+// The engine's step over the row; no words of the caller are lent.
+fn step_row(state: State, a: Answer, row: &mut [u32; 64], buf: &mut [u8]) -> StepAnswer
+    ensures { λ x. ⌜ Steps (follow (stateTree state (now (row .entry)) (now (buf .entry))) a) x (now (row .exit)) (now (buf .exit)) ⌝ }
+{
+    let mut none = [0u32; 0];
+    engine::step(over_row(state), a, row, &mut none, buf)
+}
+
 // One step of the call under way.
 fn moved(s: Session, kind: Kind, lost: bool, a: Answer, buf: &mut [u8]) -> SessionAnswer
     ensures { λ r. ⌜ Answers kind (lost || lostBy (stateTree (s .state) (s .row) (now (buf .entry))) a) (s .frame) (follow (stateTree (s .state) (s .row) (now (buf .entry))) a) (r .session) (r .reply) (now (buf .exit)) ⌝ }
@@ -146,9 +154,8 @@ fn moved(s: Session, kind: Kind, lost: bool, a: Answer, buf: &mut [u8]) -> Sessi
     let state = s.state;
     let frame = s.frame;
     let mut row = s.row;
-    let mut none = [0u32; 0];
     let by_now = lost_by(lost, state, a);
-    let x = engine::step(over_row(state), a, &mut row, &mut none, buf);
+    let x = step_row(state, a, &mut row, buf);
     settled(kind, by_now, frame, row, x)
 }
 

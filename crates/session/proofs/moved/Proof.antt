@@ -2,16 +2,12 @@
 -- answer shows.
 use mathlib.Core.Path.{refl}
 use Rattle.session.specs.Ends.{answers-as}
-use Rattle.session.specs.Starts.{steps-row}
 use borrow.Author.Needs.{needs}
 use Rattle.session.proofs.moved.Statement.{statement}
 use Rattle.session.proofs.moved.Tie as tie
 
 pub moved-spec : {M : Type 1} → statement M
-moved-spec =
-    tie.close (tie.spec
-    (λ c κs. search needs) (λ c κs. search needs) (λ c. search needs) (λ c κs. search needs) (λ c κs. search needs) (λ c. search needs)
-    (λ c. let step = c .before .before .before .before in let rowed = step .before .before .before .before in
-      let t = rowed .before .before .before .before .before .before .args in
-      answers-as _ _ _ _ _ _ _ _ _ refl (rowed .before .lost-by .ensures _ _) (c .settled .ensures _ _
-        (steps-row (t .s .state) _ _ _ _ _ _ _ _ _ (rowed .over-row .ensures) (step .step .ensures)))))
+moved-spec = tie.close (tie.spec
+    (λ c κs. search needs) (λ c κs. search needs) (λ c κs. search needs) (λ c. search needs)
+    (λ c. let step = c .before .before .before in
+      answers-as _ _ _ _ _ _ _ _ _ refl (step .before .before .before .lost-by .ensures _ _) (c .settled .ensures _ _ (step .step-row .ensures))))
