@@ -4,7 +4,7 @@
 ghost use Prim.Native.Nat.{_≤_, _<_};
 use engine::NextStep;
 use numbers::{CallEnding, TransportCall};
-use session::{Reply, SessionAnswer};
+use session::{Reply, Session, SessionAnswer};
 use session_items::Listed;
 use session_rules::SessionCall;
 use target::{Delivered, Target};
@@ -254,14 +254,24 @@ fn fitting(len: u32, all: usize) -> usize
     all
 }
 
-// A call's start, or its step with the last answer, over the first bytes of the buffer.
+// A call's start, over the first bytes of the buffer.
+fn started(s: Session, a: Asked, buf: &mut [u8]) -> SessionAnswer {
+    let n = fitting(a.len, buf.len());
+    session::session_start(s, session_call(a), &mut buf[..n])
+}
+
+// Its step with the last answer, over the same.
+fn stepped(s: Session, len: u32, answer: Answer, buf: &mut [u8]) -> SessionAnswer {
+    let n = fitting(len, buf.len());
+    session::session_step(s, answer, &mut buf[..n])
+}
+
 fn moved(now: SessionAnswer, begin: bool, a: Asked, answer: Answer, buf: &mut [u8]) -> SessionAnswer {
     let s = now.session;
-    let n = fitting(a.len, buf.len());
     if begin {
-        return session::session_start(s, session_call(a), &mut buf[..n]);
+        return started(s, a, buf);
     }
-    session::session_step(s, answer, &mut buf[..n])
+    stepped(s, a.len, answer, buf)
 }
 
 // The number of a call; a closed session mostly gets a connect.
