@@ -1,7 +1,7 @@
 -- What comes next in the tree of a transfer in flight is the transport call that is due; and where one is due, the call is under way.
 -- Serves the proofs only.
 use Prim.Native.Nat.{ℕ}
-use mathlib.Core.Bool.{Bool, true, false}
+use mathlib.Core.Bool.{Bool}
 use mathlib.Core.List.{List, []}
 use mathlib.Core.Path.{_≡_, refl, sym, ap, subst, _∙_}
 use native.Mathlib.Omega.{arith}
@@ -69,29 +69,17 @@ ends-again s o a e row words buf h g = record {
     tree : done (memoryOf (s .remembered) ws buf) o ≡ stateTree s ws buf
     tree = ended-tree o s ws buf h
 
--- a step of one under way, over the caller's words or over the row
-moves : (s : State) (a : Answer) (x : StepAnswer) (row₀ words₀ buf₀ row words buf : List ℕ) → s .status ≡ Running
-  → Lent (s .own) (follow (flightTree s (pick (s .own) words₀ row₀) buf₀) a) x row₀ words₀ row words buf
+-- A step of one under way, over the words that `own` names; the others are unchanged.
+pub moves : (own : Bool) (s : State) (a : Answer) (x : StepAnswer) (row₀ words₀ buf₀ row words buf : List ℕ) → s .status ≡ Running → s .own ≡ own
+  → pick own row words ≡ pick own row₀ words₀
+  → Steps (follow (flightTree s (pick own words₀ row₀) buf₀) a) x (pick own words row) buf × (x .state .own ≡ s .own)
   → Stepped s a x row₀ words₀ buf₀ row words buf
-moves s a x row₀ words₀ buf₀ row words buf h l = record {
-    lent = subst (λ (d : Status). Lent (s .own) (follow (statusTree d flight (memoryOf (s .remembered) ws buf₀)) a) x row₀ words₀ row words buf)
-      (sym h) l;
+moves own s a x row₀ words₀ buf₀ row words buf h ho other l = record {
+    lent = subst (λ (d : Status). Lent (s .own) (follow (statusTree d (flightTree s ws buf₀) (memoryOf (s .remembered) ws buf₀)) a) x row₀ words₀
+      row words buf) (sym h)
+      (subst (λ (b : Bool). Lent b (follow (flightTree s (pick b words₀ row₀) buf₀) a) x row₀ words₀ row words buf) (sym ho)
+      (record { steps = l .0; other = other; whose = l .1 ∙ ho }));
     stays = λ o e. let z : _≡_ {A = ℕ} 0 1 = cc in absurd (omega arith) }
   where
     ws : List ℕ
     ws = pick (s .own) words₀ row₀
-
-    flight : Wire
-    flight = flightTree s ws buf₀
-
-pub moves-words : (s : State) (a : Answer) (x : StepAnswer) (row words₀ buf₀ words buf : List ℕ) → s .status ≡ Running → s .own ≡ true
-  → Steps (follow (flightTree s words₀ buf₀) a) x words buf × (x .state .own ≡ s .own) → Stepped s a x row words₀ buf₀ row words buf
-moves-words s a x row words₀ buf₀ words buf h own l = moves s a x row words₀ buf₀ row words buf h
-    (subst (λ (b : Bool). Lent b (follow (flightTree s (pick b words₀ row) buf₀) a) x row words₀ row words buf) (sym own)
-    (record { steps = l .0; other = refl; whose = l .1 ∙ own }))
-
-pub moves-row : (s : State) (a : Answer) (x : StepAnswer) (row₀ words buf₀ row buf : List ℕ) → s .status ≡ Running → s .own ≡ false
-  → Steps (follow (flightTree s row₀ buf₀) a) x row buf × (x .state .own ≡ s .own) → Stepped s a x row₀ words buf₀ row words buf
-moves-row s a x row₀ words buf₀ row buf h own l = moves s a x row₀ words buf₀ row words buf h
-    (subst (λ (b : Bool). Lent b (follow (flightTree s (pick b words row₀) buf₀) a) x row₀ words row words buf) (sym own)
-    (record { steps = l .0; other = refl; whose = l .1 ∙ own }))

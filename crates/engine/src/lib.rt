@@ -34,11 +34,13 @@ pub struct State {
     pub own: bool,
 }
 
+// The transport call to make next, or how the call ended.
 pub enum NextStep {
     Make(TransportCall),
     Finish(CallEnding),
 }
 
+// What a start or a step answers. `bytes`: those of a sequence, as many as its call says.
 pub struct StepAnswer {
     pub next: NextStep,
     pub state: State,

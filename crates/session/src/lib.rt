@@ -34,6 +34,7 @@ pub struct Reply {
     pub bytes: [u8; 16],
 }
 
+// The session after a start or a step, and its reply to the caller.
 pub struct SessionAnswer {
     pub session: Session,
     pub reply: Reply,

@@ -25,6 +25,7 @@ pub enum SessionCall {
     Fpb(FpbCall),
 }
 
+// Whether a call may start, or the error that refuses it.
 pub enum Check {
     Pass,
     Refuse(ArmError),

@@ -63,6 +63,7 @@ pub enum ArmError {
     TableEnd,
 }
 
+// How an operation or a call ended: with a value, or with an error.
 pub enum Outcome {
     Value(u32),
     Failed(ArmError),
@@ -94,6 +95,7 @@ pub fn pattern_bytes(p: Pattern) -> [u8; 16]
     }
 }
 
+// What is in flight: a try of a transfer, the ABORT after it, whose answer is ignored, or a call that is no transfer.
 pub enum Mode {
     Trying,
     Aborting,
