@@ -1,10 +1,10 @@
 #!/bin/sh
 # Lines by crate: code, believed definitions, other specs (they serve proofs only), proofs, must-fail edits.
-# Blank lines and lines of comment only are not counted. A spec file is believed unless its header says that it serves the
-# proofs, or it holds laws, theorems or proved cases.
+# Blank lines and lines of comment only are not counted. tools/kind.sh says which specs are believed.
 # Usage: tools/figures.sh
 set -eu
 cd "$(dirname "$0")/.."
+. tools/kind.sh
 count() { cat /dev/null "$@" 2>/dev/null | grep -vcE '^[[:space:]]*(//|--|$)' || true; }
 
 printf '%-16s %6s %9s %6s %7s %6s\n' crate code believed other proofs edits
@@ -13,10 +13,7 @@ sed -n 's/^\([a-z_0-9]*\):.*/\1/p' crates.txt | while read -r crate; do
     believed= other=
     for file in "$dir"/specs/*.antt; do
         [ -f "$file" ] || continue
-        case $file in
-            *Laws.antt | */Expected.antt | */Theorem.antt | */InStep.antt | crates/cases/*) other="$other $file" ;;
-            *) if head -n 3 "$file" | grep -qi 'serves* the proofs'; then other="$other $file"; else believed="$believed $file"; fi ;;
-        esac
+        if [ "$(kind "$file" <"$file")" = believed ]; then believed="$believed $file"; else other="$other $file"; fi
     done
     # shellcheck disable=SC2086
     printf '%-16s %6s %9s %6s %7s %6s\n' "$crate" "$(count "$dir"/src/*.rt)" "$(count $believed)" "$(count $other)" \

@@ -5,6 +5,8 @@ use mathlib.Core.List.{List, []}
 use mathlib.Core.Path.{_≡_}
 use Rattle.transport.specs.Bytes.{handed, padded}
 use Rattle.transport.specs.Wire.{Wire, Memory, memoryOf, done, ask, tell, follow}
+use Rattle.transport.specs.Count.{Counted}
+use Rattle.transport.specs.declared.Transfer.{Transfer}
 use Rattle.transport.specs.declared.Answer.{Answer}
 use Rattle.transport.specs.declared.Outcome.{Outcome}
 use Rattle.numbers.specs.Results.{resultOf}
@@ -14,7 +16,8 @@ use Rattle.engine.specs.State.{stateTree}
 use Rattle.engine.specs.declared.NextStep.{NextStep}
 use Rattle.engine.specs.declared.NextStep.the-variants as N
 use Rattle.engine.specs.declared.State.{State}
-use Rattle.engine.specs.declared.Status.the-variants.{Ended}
+use Rattle.engine.specs.declared.Status.{Status}
+use Rattle.engine.specs.declared.Status.the-variants.{Running, Ended}
 use Rattle.engine.specs.declared.StepAnswer.{StepAnswer}
 
 -- what comes next in a tree: a transport call, or how the call ended
@@ -35,13 +38,19 @@ memoryIn (done m o) = m
 memoryIn (ask m c f) = m
 memoryIn (tell m c w) = m
 
+-- Of the transport call in flight the count of tries is right (02, e); of a call that has ended nothing is in flight.
+abbrev pub CountedIn : Status → Transfer → Type 0
+CountedIn Running t = Counted t
+CountedIn (Ended o) t = Unit {0}
+
 -- The answer a reports the tree w: what comes next, its bytes, what is remembered, the words ws and the buffer b; and its state
--- stands for w.
+-- stands for w, with the count of tries that it may have.
 pub record Steps (w : Wire) (a : StepAnswer) (ws b : List ℕ) : Type 0 where
   pub next : a .next ≡ nextOf w
   pub bytes : a .bytes ≡ padded (bytesOf w)
   pub memory : memoryOf (a .state .remembered) ws b ≡ memoryIn w
   pub tree : w ≡ stateTree (a .state) ws b
+  pub counted : CountedIn (a .state .status) (a .state .started .launched .transfer)
 
 -- The same over a row and the caller's words, of which `own` says which one the call runs over; the other is unchanged.
 pub record Lent (own : Bool) (w : Wire) (a : StepAnswer) (row₀ words₀ row words buf : List ℕ) : Type 0 where

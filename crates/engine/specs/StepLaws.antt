@@ -18,7 +18,7 @@ use Rattle.numbers.specs.Results.{resultOf}
 use Rattle.numbers.specs.declared.CallEnding.{CallEnding}
 use Rattle.calls.specs.Calls.{pick}
 use Rattle.engine.specs.State.{flightTree, statusTree, stateTree}
-use Rattle.engine.specs.Step.{nextOf, bytesOf, memoryIn, Steps, Lent, Stepped}
+use Rattle.engine.specs.Step.{nextOf, bytesOf, memoryIn, CountedIn, Steps, Lent, Stepped}
 use Rattle.engine.specs.declared.State.{State}
 use Rattle.engine.specs.declared.StepAnswer.{StepAnswer}
 use Rattle.engine.specs.declared.Status.{Status}
@@ -58,7 +58,7 @@ pub ends-again : (s : State) (o : Outcome) (a : Answer) (e : CallEnding) (row wo
 ends-again s o a e row words buf h g = record {
     lent = record {
       steps = subst (λ (w : Wire). Steps (follow w a) (record { next = N.Finish e; state = s; bytes = padded [] }) ws buf) tree
-        (record { next = ap N.Finish g; bytes = refl; memory = refl; tree = tree });
+        (record { next = ap N.Finish g; bytes = refl; memory = refl; tree = tree; counted = subst (λ (d : Status). CountedIn d (s .started .launched .transfer)) (sym h) tt });
       other = refl;
       whose = refl };
     stays = λ _ _. refl }

@@ -5,6 +5,7 @@ ghost use mathlib.Core.List.{List};
 ghost use Prim.Native.Nat.{ℕ};
 ghost use lib.ListN.{length};
 ghost use Rattle.transport.specs.Wire.{memoryOf, done, follow};
+ghost use Rattle.transport.specs.Count.{Counted};
 ghost use Rattle.memap.specs.Flight.{startedTree};
 ghost use Rattle.jobs.specs.Change.{fresh};
 ghost use Rattle.jobs.specs.Job.{exec};
@@ -56,6 +57,7 @@ pub fn new() -> Remembered
 
 // The transport call of a state is due.
 fn go(r: Remembered, p: At, s: Started, own: bool) -> StepAnswer
+    requires { ⌜ Counted (s .launched .transfer) ⌝ }
     ensures { λ x. ⌜ ((ws b : List ℕ) → Steps (startedTree s (thenOf (callAfter p)) (memoryOf r ws b)) x ws b) × (x .state .own ≡ own) ⌝ }
 {
     let c = transport::due(s.launched.transfer);

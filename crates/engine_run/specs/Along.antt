@@ -128,7 +128,7 @@ along-out t m k limit xs i l₀ l p h al =
     subst (λ (z : Played). Along i l₀ l p z) (ap (play (transferTree m t k)) (rest-none limit xs i h) ∙ play-nil (t .mode) m t k) al
 
 fresh : ℕ → ℕ → Transfer
-fresh request word = record { call = C.Transfer request word; mode = M.Trying; left = 64; error = E.Wait }
+fresh request word = record { call = C.Transfer request word; mode = M.Trying; tries = 1; error = E.Wait }
 
 fresh-tree : (m : Memory) (request word : ℕ) (k : Outcome → Wire) → transfer m request word k ≡ transferTree m (fresh request word) k
 unfolding transfer tries fresh

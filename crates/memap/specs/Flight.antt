@@ -6,6 +6,7 @@ use mathlib.Core.Path.{_≡_, refl, ap}
 use native.Mathlib.Omega.{arith}
 use lib.Dec.{eqb}
 use Rattle.transport.specs.Wire.{Wire, Memory, memoryOf}
+use Rattle.transport.specs.Count.{Counted}
 use Rattle.transport.specs.Flight.{transferTree}
 use Rattle.transport.specs.declared.Remembered.{Remembered}
 use Rattle.transport.specs.declared.ArmError.{ArmError}
@@ -87,6 +88,10 @@ nextTree ws b (N.Pushing r t more) k = push (t .last) more k (memoryOf r ws b)
 abbrev pub wentTree : List ℕ → List ℕ → Went → Then → Wire
 wentTree ws b (Moving r s) k = startedTree s k (memoryOf r ws b)
 wentTree ws b (Finished r o) k = k (memoryOf r ws b) o
+
+abbrev pub WentCounted : Went → Type 0
+WentCounted (Moving r s) = Counted (s .launched .transfer)
+WentCounted (Finished r o) = Unit {0}
 
 -- an error behind SELECT ends the access, and every phase hands it on
 pub stage-fails : (b : Bool) (r : Reach) (k : Then) (m : Memory) (e : ArmError) → stageAfter b r k m (Failed e) ≡ k m (Failed e)

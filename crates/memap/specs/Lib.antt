@@ -3,3 +3,4 @@ pub mod Ports
 pub mod Words
 pub mod Ops
 pub mod Flight
+pub mod CountLaws

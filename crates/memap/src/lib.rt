@@ -10,13 +10,14 @@ ghost use Prim.Native.Nat.{ℕ, _-_};
 ghost use lib.ListN.{set, getD};
 ghost use Rattle.transport.specs.Wire.{Memory, memoryOf, follow};
 ghost use Rattle.transport.specs.Transfer.{transfer, raw};
+ghost use Rattle.transport.specs.Count.{Counted};
 ghost use Rattle.transport.specs.Flight.{transferTree};
 ghost use Rattle.memap.specs.Action.{Then, transferring};
 ghost use Rattle.memap.specs.Ports.{apAccess, cswKnown, DRW};
 ghost use Rattle.memap.specs.Words.{place, pull, push};
 ghost use Rattle.memap.specs.Ops.{perform};
 ghost use Rattle.transport.specs.declared.Outcome.the-variants.{Value};
-ghost use Rattle.memap.specs.Flight.{next, stageAfter, reachAfter, launchedTree, dataAt, atTar, ensuringTask, phaseAfter, opAfter, startedTree, nextTree, wentTree};
+ghost use Rattle.memap.specs.Flight.{next, stageAfter, reachAfter, launchedTree, dataAt, atTar, ensuringTask, phaseAfter, opAfter, startedTree, nextTree, wentTree, WentCounted};
 use transport::{Answer, Call, Outcome, Remembered, Transfer};
 
 // What follows an access's transfer: while `selecting`, the transfer `request` with `word`.
@@ -280,6 +281,7 @@ fn task_start(r: Remembered, t: Task, n: u32) -> Started
 // A transport call as it stands, with nothing to do after it; t is any task.
 fn raw_start(c: Call, t: Task) -> Started
     ensures { λ x. ⌜ ((k : Then) (m : Memory) → raw m c (k m) ≡ startedTree x k m) ⌝ }
+    ensures counted { λ x. ⌜ Counted (x .launched .transfer) ⌝ }
 {
     let x = transport::begin_raw(c);
     let alone = Reach { selecting: false, select: 0, request: 0, word: 0 };
@@ -288,6 +290,7 @@ fn raw_start(c: Call, t: Task) -> Started
 
 pub fn op_start(r: Remembered, op: Op) -> Started
     ensures { λ x. ⌜ ((ws buf : List ℕ) (k : Then) → perform op k (memoryOf r ws buf) ≡ startedTree x k (memoryOf r ws buf)) ⌝ }
+    ensures counted { λ x. ⌜ Counted (x .launched .transfer) ⌝ }
 {
     let none = Task { kind: Kind::ReadWord, addr: 0, word: 0, last: 0 };
     match op {
@@ -342,6 +345,7 @@ fn resumed(n: OpNext, row: &[u32]) -> Went
 // The transport call in flight goes on as t.
 fn again(r: Remembered, s: Started, t: Transfer) -> Went
     ensures { λ x. ⌜ ((ws buf : List ℕ) (k : Then) → transferTree (memoryOf r ws buf) t (reachAfter (s .launched .reach) (opAfter (s .doing) k) (memoryOf r ws buf)) ≡ wentTree ws buf x k) ⌝ }
+    ensures counted { λ x. ⌜ (Counted t → WentCounted x) ⌝ }
 {
     let d = s.doing;
     let l = s.launched;
@@ -352,6 +356,7 @@ fn again(r: Remembered, s: Started, t: Transfer) -> Went
 // What an operation in flight does with an answer.
 pub fn op_step(r: Remembered, s: Started, a: Answer, row: &mut [u32]) -> Went
     ensures { λ x. ⌜ ((buf : List ℕ) (k : Then) → follow (startedTree s k (memoryOf r (now (row .entry)) buf)) a ≡ wentTree (now (row .exit)) buf x k) ⌝ }
+    ensures counted { λ x. ⌜ WentCounted x ⌝ }
 {
     match transport::transfer_step(s.launched.transfer, a) {
         transport::Went::Again(t2) => return again(r, s, t2),

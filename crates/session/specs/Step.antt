@@ -13,7 +13,7 @@ use Rattle.transport.specs.declared.Outcome.the-variants.{Failed}
 use Rattle.numbers.specs.Results.{resultOf}
 use Rattle.calls.specs.Calls.{leave}
 use Rattle.engine.specs.State.{stateTree}
-use Rattle.engine.specs.Step.{nextOf, bytesOf, memoryIn}
+use Rattle.engine.specs.Step.{nextOf, bytesOf, memoryIn, CountedIn}
 use Rattle.engine.specs.declared.NextStep.{NextStep}
 use Rattle.engine.specs.declared.NextStep.the-variants as N
 use Rattle.session_rules.specs.Admits.{refusal}
@@ -50,6 +50,7 @@ pub record Answers (kind : Kind) (lost : Bool) (before : List ℕ) (w : Wire) (s
   pub memory : memoryOf (s .state .remembered) (s .row) buf ≡ memoryIn w
   pub frame : s .frame ≡ frameIn kind w before
   pub tree : w ≡ stateTree (s .state) (s .row) buf
+  pub counted : CountedIn (s .state .status) (s .state .started .launched .transfer)
 
 -- nothing is changed, and no transport call is due
 pub record Refused (e : ArmError) (before s : Session) (r : Reply) (buf₀ buf : List ℕ) : Type 0 where

@@ -1,4 +1,6 @@
 pub mod Bytes
 pub mod Wire
 pub mod Transfer
+pub mod Count
+pub mod CountLaws
 pub mod Flight

@@ -9,7 +9,8 @@ ghost use Rattle.transport.specs.declared.Outcome.{Outcome};
 ghost use Rattle.transport.specs.Bytes.{patternBits, patternBytes, padded, handed};
 ghost use Rattle.transport.specs.Wire.{Wire, Memory, follow};
 ghost use Rattle.transport.specs.Transfer.{transfer, raw};
-ghost use Rattle.transport.specs.Flight.{transferTree, wentTree, dueOf};
+ghost use Rattle.transport.specs.Count.{Counted};
+ghost use Rattle.transport.specs.Flight.{transferTree, wentTree, dueOf, WentCounted};
 
 // What the engine remembers of the target. SELECT 0xFFFFFFFF means unknown.
 pub struct Remembered {
@@ -102,11 +103,14 @@ pub enum Mode {
     Raw,
 }
 
-// A transport call in flight. `left`: how many more tries after this one; `error`: what the call fails with after its ABORT.
+// A transfer is tried so often: the first time and the Rust's 64 retries.
+const TRIES: u8 = 65;
+
+// A transport call in flight. `tries`: how often it was made, this time included; `error`: what the call fails with after its ABORT.
 pub struct Transfer {
     pub call: Call,
     pub mode: Mode,
-    pub left: u32,
+    pub tries: u8,
     pub error: ArmError,
 }
 
@@ -118,15 +122,17 @@ pub enum Went {
 // A transfer: WAIT repeats it, at most 64 times.
 pub fn begin(request: u8, word: u32) -> Transfer
     ensures { λ r. ⌜ ((m : Memory) (k : Outcome → Wire) → transfer m request word k ≡ transferTree m r k) ⌝ }
+    ensures counted { λ r. ⌜ Counted r ⌝ }
 {
-    Transfer { call: Call::Transfer { request: request, word: word }, mode: Mode::Trying, left: 64, error: ArmError::Wait }
+    Transfer { call: Call::Transfer { request: request, word: word }, mode: Mode::Trying, tries: 1, error: ArmError::Wait }
 }
 
 // A transport call that is made once, with no ABORT after an error.
 pub fn begin_raw(c: Call) -> Transfer
     ensures { λ r. ⌜ ((m : Memory) (k : Outcome → Wire) → raw m c k ≡ transferTree m r k) ⌝ }
+    ensures counted { λ r. ⌜ Counted r ⌝ }
 {
-    Transfer { call: c, mode: Mode::Raw, left: 0, error: ArmError::Wait }
+    Transfer { call: c, mode: Mode::Raw, tries: 1, error: ArmError::Wait }
 }
 
 // The transport call that is due while a transfer is in flight: ABORT after an error.
@@ -142,9 +148,10 @@ pub fn due(t: Transfer) -> Call
     }
 }
 
-// What a transport call in flight does with an answer.
+// What a transport call in flight does with an answer. Whatever count it finds, it leaves none above 65.
 pub fn transfer_step(t: Transfer, a: Answer) -> Went
     ensures { λ r. ⌜ ((m : Memory) (k : Outcome → Wire) → follow (transferTree m t k) a ≡ wentTree m r k) ⌝ }
+    ensures counted { λ r. ⌜ WentCounted r ⌝ }
 {
     let e = t.error;
     let c = t.call;
@@ -161,15 +168,15 @@ pub fn transfer_step(t: Transfer, a: Answer) -> Went
             Answer::Good(v) => Went::Ended(Outcome::Value(v)),
             Answer::SwdError(ack) => {
                 if ack == 2 {
-                    if t.left == 0 {
+                    if TRIES <= t.tries {
                         return Went::Ended(Outcome::Failed(ArmError::Wait));
                     }
-                    return Went::Again(Transfer { call: c, mode: Mode::Trying, left: t.left - 1, error: e });
+                    return Went::Again(Transfer { call: c, mode: Mode::Trying, tries: t.tries + 1, error: e });
                 }
-                Went::Again(Transfer { call: c, mode: Mode::Aborting, left: t.left, error: ArmError::Transfer(ack) })
+                Went::Again(Transfer { call: c, mode: Mode::Aborting, tries: 1, error: ArmError::Transfer(ack) })
             }
-            Answer::NotSupported => Went::Again(Transfer { call: c, mode: Mode::Aborting, left: t.left, error: ArmError::NotSupported }),
-            Answer::Other => Went::Again(Transfer { call: c, mode: Mode::Aborting, left: t.left, error: ArmError::Internal }),
+            Answer::NotSupported => Went::Again(Transfer { call: c, mode: Mode::Aborting, tries: 1, error: ArmError::NotSupported }),
+            Answer::Other => Went::Again(Transfer { call: c, mode: Mode::Aborting, tries: 1, error: ArmError::Internal }),
         },
     }
 }

@@ -13,5 +13,5 @@ pub begun-spec : {M : Type 1} → statement M
 begun-spec =
     tie.close (tie.spec
     (λ c. search needs) (λ c κs. search needs) (λ c κs. search needs) (λ c. search needs) (λ c κs. search needs)
-    (λ c. ((λ ws b. simp (c .before .before .before .n .given .1) (simp (exec-op) (simp (c .before .op-start .ensures)
+    (λ c. ((λ ws b. simp (c .before .before .before .n .given .1) (simp (exec-op) (simp (c .before .op-start .ensures .0)
       (c .go .ensures .0 ws b)))), c .go .ensures .1)) returns-2)

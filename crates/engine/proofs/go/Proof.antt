@@ -18,4 +18,5 @@ go-spec = tie.close (tie.spec
         next = ap N.Make (c .before .numbers-of .ensures ∙ ap numbersOf e) ∙ f .next;
         bytes = c .bytes-of .ensures ∙ ap (λ (x : Call). padded (handed x)) e ∙ ap padded (f .bytes);
         memory = f .memory;
-        tree = refl }), refl)))
+        tree = refl;
+        counted = c .before .before .before .pre }), refl)))

@@ -8,4 +8,4 @@ use Rattle.engine.proofs.over.Tie as tie
 pub over-spec : {M : Type 1} → statement M
 over-spec = tie.close (tie.spec
     (λ c κs. search needs) (λ c κs. search needs)
-    (λ c. ((λ ws b. record { next = ap N.Finish (c .result-of .ensures); bytes = refl; memory = refl; tree = refl }), refl)))
+    (λ c. ((λ ws b. record { next = ap N.Finish (c .result-of .ensures); bytes = refl; memory = refl; tree = refl; counted = tt }), refl)))

@@ -38,7 +38,7 @@ run-flight-spec =
       .0), b8 .note .kept .0 ∙ l .inv .1, λ m k l₀ p h. along-step (l .t) m k (a .limit) (a .answers .now) (l .i) l₀ (l .log) p _ _ _ _
         (b11 .loop-test
       .taken) (b15 .pre) (b9 .due .ensures) (b8 .note .ensures) (b4 .answer-of .ensures) (simp (c .before .t2 .given .1) at
-        (b3 .transfer-step .ensures m
+        (b3 .transfer-step .ensures .0 m
       k)) (l .inv .2 m k l₀ p h)))
     (λ c. search needs)
     (λ c. let b8 = c .before .before .before .before .before .before .before .before in let b12 = b8 .before .before .before .before in b8 .note
@@ -51,7 +51,7 @@ run-flight-spec =
         (b11
       .loop-test .taken) (b15 .pre) (b9 .due .ensures) (b8 .note .ensures) (b4 .answer-of .ensures) (simp (c .before .o .given .1) at
         (b3 .transfer-step
-      .ensures m k)) (l .inv .2 m k l₀ p h)))
+      .ensures .0 m k)) (l .inv .2 m k l₀ p h)))
     (λ c. c .before .loop .inv .1)
     (λ c. let l = c .before .loop in let a = c .before .before .before .before .args in (tt, λ m k l₀ p h. along-out (l .t) m k (a .limit) (a .answers
       .now) (l .i) l₀ (l .log) p (omega (arith, c .loop-test .left)) (l .inv .2 m k l₀ p h))))

@@ -36,7 +36,7 @@ run-op-spec =
       .before .before in let l = b8 .loop in let a = b13 .args in (tt, λ buf k l₀ p h. op-stops (l .s) (l .r) (l .ws) buf k (a .limit)
         (a .answers .now)
       (l .i) l₀ (l .log) p _ _ (b4 .run-transfer .ensures) (c .enum-told .given .1) (l .inv .3 buf k l₀ p (along-same _ _ _ _ _ _ _
-        (b9 .op-start .ensures
+        (b9 .op-start .ensures .0
       _ buf k) h))))
     (λ c. search needs) (λ c κs. search needs) (λ c. search needs)
     (λ c. let b8 = c .before .before .before .before .before .before .before .before in let b12 = b8 .before .before .before .before in let b16 = b12
@@ -65,7 +65,7 @@ run-op-spec =
       g .1), λ buf k l₀ p h. op-goes (l .s) (l .r) (l .ws) buf k (a .limit) (a .answers .now) (l .i) l₀ (l .log) p _ _ _ _
         (b12 .run-transfer .ensures)
       (b8 .end .given .1) (simp (c .before .r22 .given .1) at (b5 .op-ended .ensures buf k)) (l .inv .3 buf k l₀ p (along-same _ _ _ _ _ _ _ (b17
-      .op-start .ensures _ buf k) h))))
+      .op-start .ensures .0 _ buf k) h))))
     (λ c. search needs)
     (λ c κs. c .before .before .before .before .before .before .before .before .before .before .before .before .before .before .before .before .before
       .before .before .before .before .before .before .pre)

@@ -10,4 +10,4 @@ access-start-spec =
     tie.close (tie.spec
     (λ c. search needs) (λ c. search needs) (λ c. search needs) (λ c. search needs) (λ c κs. search needs)
     (λ c. λ ws buf k. simp (eq-eqb _ _ (c .before .if1 .taken)) (c .direct .ensures _ k)) (λ c κs. search needs)
-    (λ c. λ ws buf k. simp (ne-eqb _ _ (c .before .if1 .left)) (c .begin .ensures _ _)))
+    (λ c. λ ws buf k. simp (ne-eqb _ _ (c .before .if1 .left)) (c .begin .ensures .0 _ _)))

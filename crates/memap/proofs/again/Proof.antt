@@ -5,4 +5,4 @@ use Rattle.memap.proofs.again.Statement.{statement}
 use Rattle.memap.proofs.again.Tie as tie
 
 pub again-spec : {M : Type 1} → statement M
-again-spec = tie.close (tie.spec (λ c. λ ws buf k. refl))
+again-spec = tie.close (tie.spec (λ c. ((λ ws buf k. refl), λ h. h)))

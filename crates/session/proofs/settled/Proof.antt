@@ -16,4 +16,5 @@ settled-spec =
       phase = c .before .phase-at .ensures ∙ phase-at _ _ w _ (h .next);
       memory = h .memory;
       frame = c .frame-at .ensures ∙ frame-at _ w _ _ _ b _ (h .next) (h .memory);
-      tree = h .tree }))
+      tree = h .tree;
+      counted = h .counted }))

@@ -1,12 +1,13 @@
 -- A call that is no transfer is made once: that is the definition.
 use mathlib.Core.Path.{refl}
+use native.Mathlib.Omega.{arith}
 use Rattle.transport.specs.Transfer.{raw}
 use Rattle.transport.proofs.begin_raw.Statement.{statement}
 use Rattle.transport.proofs.begin_raw.Tie as tie
 
 returns : tie.Need-returns
 unfolding raw
-returns c = λ e k. refl
+returns c = ((λ m k. refl), omega arith)
 
 pub begin-raw-spec : {M : Type 1} → statement M
 begin-raw-spec = tie.close (tie.spec returns)

@@ -1,0 +1,15 @@
+# The kind of a file, for the scripts that count lines: kind PATH, with the file's text on standard input.
+# A spec is believed unless its header says that it serves the proofs, or it holds laws, theorems or proved cases ("other").
+kind() {
+    case $1 in
+        crates/*/src/*.rt) echo code ;;
+        crates/*/specs/*Laws.antt | crates/*/specs/Expected.antt | crates/*/specs/Theorem.antt | crates/*/specs/InStep.antt | crates/cases/specs/*)
+            echo other ;;
+        crates/*/specs/*.antt) if head -n 3 | grep -qi 'serves* the proofs'; then echo other; else echo believed; fi ;;
+        crates/*/proofs/*.antt) echo proofs ;;
+        crates/*/must-fail/*.edit) echo edits ;;
+        crates/*/stdin | crates/*/stdout | crates/*/args | crates/*/data/*) echo stored ;;
+        *.md) echo documents ;;
+        *) echo tools ;;
+    esac
+}
