@@ -38,13 +38,13 @@ memoryIn (done m o) = m
 memoryIn (ask m c f) = m
 memoryIn (tell m c w) = m
 
--- Of the transport call in flight the count of tries is right (02, e); of a call that has ended nothing is in flight.
+-- The transport call in flight was made at most 65 times (02, e); of a call that has ended nothing is in flight.
 abbrev pub CountedIn : Status → Transfer → Type 0
 CountedIn Running t = Counted t
 CountedIn (Ended o) t = Unit {0}
 
 -- The answer a reports the tree w: what comes next, its bytes, what is remembered, the words ws and the buffer b; and its state
--- stands for w, with the count of tries that it may have.
+-- stands for w, with a count of tries of at most 65.
 pub record Steps (w : Wire) (a : StepAnswer) (ws b : List ℕ) : Type 0 where
   pub next : a .next ≡ nextOf w
   pub bytes : a .bytes ≡ padded (bytesOf w)

@@ -58,7 +58,12 @@ pub ends-again : (s : State) (o : Outcome) (a : Answer) (e : CallEnding) (row wo
 ends-again s o a e row words buf h g = record {
     lent = record {
       steps = subst (λ (w : Wire). Steps (follow w a) (record { next = N.Finish e; state = s; bytes = padded [] }) ws buf) tree
-        (record { next = ap N.Finish g; bytes = refl; memory = refl; tree = tree; counted = subst (λ (d : Status). CountedIn d (s .started .launched .transfer)) (sym h) tt });
+        (record {
+          next = ap N.Finish g;
+          bytes = refl;
+          memory = refl;
+          tree = tree;
+          counted = subst (λ (d : Status). CountedIn d (s .started .launched .transfer)) (sym h) tt });
       other = refl;
       whose = refl };
     stays = λ _ _. refl }

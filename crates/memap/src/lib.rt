@@ -271,6 +271,7 @@ fn value_after(r: Remembered, d: Doing, v: u32, row: &mut [u32]) -> OpNext
 // A word or a run of words: CSW first, where it is not known, and then TAR.
 fn task_start(r: Remembered, t: Task, n: u32) -> Started
     ensures { λ x. ⌜ ((ws buf : List ℕ) (k : Then) → ensuringTask t n k (memoryOf r ws buf) ≡ startedTree x k (memoryOf r ws buf)) ⌝ }
+    ensures counted { λ x. ⌜ Counted (x .launched .transfer) ⌝ }
 {
     if r.csw {
         return access_on(r, Phase::Tar, n, t, 5, 4, t.addr);

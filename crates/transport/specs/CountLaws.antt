@@ -3,10 +3,10 @@
 use Prim.Native.Nat.{ℕ, zero, suc}
 use mathlib.Core.Bool.{Bool, true, false}
 use mathlib.Core.List.{List, [], _∷_}
-use mathlib.Core.Path.{_≡_, refl, ap}
+use mathlib.Core.Path.{refl, ap}
 use native.Mathlib.Omega.{arith}
 use lib.Dec.{eqb}
-use Rattle.transport.specs.Wire.{Wire, Memory, done, play}
+use Rattle.transport.specs.Wire.{Memory, done, play}
 use Rattle.transport.specs.Transfer.{clearStickyErrors, afterAck, afterAnswer, tries, transfer}
 use Rattle.transport.specs.Count.{Tried}
 use Rattle.transport.specs.declared.Call.{Call}
@@ -21,7 +21,12 @@ none n c = record { tries = 0; aborts = 0; few = omega arith; once = omega arith
 
 -- one try more
 once-more : (n : ℕ) (c : Call) (calls : List Call) → Tried n c calls → Tried (suc n) c (c ∷ calls)
-once-more n c calls h = record { tries = suc (h .tries); aborts = h .aborts; few = omega (arith, h .few); once = h .once; list = ap (λ (l : List Call). c ∷ l) (h .list) }
+once-more n c calls h = record {
+    tries = suc (h .tries);
+    aborts = h .aborts;
+    few = omega (arith, h .few);
+    once = h .once;
+    list = ap (λ (l : List Call). c ∷ l) (h .list) }
 
 aborted : (n : ℕ) (c : Call) (m : Memory) (e : ArmError) (answers : List Answer)
   → Tried n c (play (clearStickyErrors m e (done m)) answers .calls)

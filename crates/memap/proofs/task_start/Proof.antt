@@ -1,10 +1,22 @@
 -- Where CSW is known the definition computes to TAR's access.
 -- Otherwise it is CSW's access, followed by what the phase Csw stands for.
+use mathlib.Core.List.{[]}
+use Rattle.transport.specs.Wire.{memoryOf}
+use Rattle.memap.specs.Ports.{CSW, TAR, CSW-DEFAULT}
+use Rattle.memap.specs.Flight.{phaseAfter}
+use Rattle.memap.specs.CountLaws.{ends, access-counted}
+use Rattle.memap.specs.declared.Phase.the-variants as P
 use borrow.Author.Needs.{needs}
 use Rattle.memap.proofs.task_start.Statement.{statement}
 use Rattle.memap.proofs.task_start.Tie as tie
 
 pub task-start-spec : {M : Type 1} → statement M
 task-start-spec = tie.close (tie.spec
-    (λ c κs. search needs) (λ c. λ ws buf k. simp (c .before .if1 .taken) (c .access-on .ensures ws buf k)) (λ c κs. search needs)
-    (λ c. λ ws buf k. simp (c .before .if1 .left) (c .access-on2 .ensures ws buf k)))
+    (λ c κs. search needs)
+    (λ c. let a = c .before .before .args in let x = c .access-on .ensures in
+      ((λ ws buf k. simp (c .before .if1 .taken) (x ws buf k)),
+      access-counted 5 TAR (a .t .addr) (phaseAfter P.Tar (a .t) (a .n) ends) (memoryOf (a .r) [] []) (c .access-on .result) (x [] [] ends)))
+    (λ c κs. search needs)
+    (λ c. let a = c .before .before .args in let x = c .access-on2 .ensures in
+      ((λ ws buf k. simp (c .before .if1 .left) (x ws buf k)),
+      access-counted 1 CSW CSW-DEFAULT (phaseAfter P.Csw (a .t) (a .n) ends) (memoryOf (a .r) [] []) (c .access-on2 .result) (x [] [] ends))))

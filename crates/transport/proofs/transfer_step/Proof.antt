@@ -13,7 +13,7 @@ transfer-step-spec =
     (λ c. search needs) (λ c. search needs) (λ c. search needs) (λ c. search needs) (λ c. search needs) (λ c. search needs) (λ c. search needs)
     (λ c. search needs) (λ c. search needs)
     (λ c. ((λ m k. simp (c .before .before .before .before .before .before .enum-told5 .given .1) (simp (c .before .before .before .before .a4 .given
-      .1) (simp (eq-eqb _ _ (c .before .before .if1 .taken)) (tries-none _ _ _ k (c .if2 .taken))))), tt))
+      .1) (simp (eq-eqb _ _ (c .before .before .if1 .taken)) (tries-none _ _ _ k (omega (arith, c .if2 .taken)))))), tt))
     (λ c. search needs)
     (λ c. ((λ m k. simp (c .before .before .before .before .before .before .before .enum-told5 .given .1) (simp (c .before .before .before .before
       .before .a4 .given .1) (simp (eq-eqb _ _ (c .before .before .before .if1 .taken)) (tries-more _ _ _ k (omega (arith, c .before .if2 .left)))))),
