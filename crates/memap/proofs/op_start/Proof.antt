@@ -1,5 +1,6 @@
 -- The operation makes the definition compute to its first access, which the callee starts.
 -- A word or a run of words is CSW, TAR and its data: the task that `task_start` ensures.
+-- What begins with a transfer has its count right by the same equation, at an operation that nothing follows (`ends`).
 use mathlib.Core.List.{[]}
 use Prim.Native.Nat.{_+_}
 use Rattle.transport.specs.Transfer.{tries, transfer}

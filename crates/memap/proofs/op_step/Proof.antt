@@ -1,4 +1,5 @@
--- The transport call in flight takes the answer, and the operation its outcome, each by its own contract.
+-- The transport call in flight takes the answer, and the operation its outcome, each by its own contract. The count is that of
+-- `transfer_step` where the call goes on, and that of a transfer just begun where the operation does (`went-counted`).
 use mathlib.Core.List.{[]}
 use mathlib.Core.Path.{subst}
 use Rattle.transport.specs.Flight.{WentCounted}

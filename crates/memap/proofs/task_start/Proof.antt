@@ -1,5 +1,5 @@
 -- Where CSW is known the definition computes to TAR's access.
--- Otherwise it is CSW's access, followed by what the phase Csw stands for.
+-- Otherwise it is CSW's access, followed by what the phase Csw stands for. Either is an access, so its count is right.
 use mathlib.Core.List.{[]}
 use Rattle.transport.specs.Wire.{memoryOf}
 use Rattle.memap.specs.Ports.{CSW, TAR, CSW-DEFAULT}
