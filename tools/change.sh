@@ -1,6 +1,7 @@
 #!/bin/sh
 # The figures of a change, for its page in docs/changes.
-# Usage: tools/change.sh BASE [REV]             what moved from BASE to REV (default: HEAD): lines by kind of file, clauses of contracts
+# Usage: tools/change.sh BASE [REV]             what moved from BASE to REV (default: HEAD), documents apart: lines by kind of file,
+#                                               clauses of contracts, proofs
 #        tools/change.sh --times REV CRATE..    seconds that the check of each crate takes at REV, alone, with all below it proved
 # Lines that are blank or comment only are not counted; a line that changed counts as one added and one removed.
 set -eu
@@ -38,8 +39,8 @@ done >"$room/files"
 awk '{ n[$1]++; a[$1] += $2; r[$1] += $3 }
     END {
         printf "%-10s %6s %6s %8s\n", "kind", "files", "added", "removed"
-        split("code believed other proofs edits stored tools documents", k)
-        for (i = 1; i <= 8; i++) printf "%-10s %6d %6d %8d\n", k[i], n[k[i]], a[k[i]], r[k[i]]
+        split("code believed other proofs edits stored tools", k)
+        for (i = 1; i <= 7; i++) printf "%-10s %6d %6d %8d\n", k[i], n[k[i]], a[k[i]], r[k[i]]
     }' "$room/files"
 echo
 echo "definitions believed:"
