@@ -10,7 +10,7 @@ cd "$(dirname "$0")/.."
 room=$(mktemp -d)
 trap 'rm -rf "$room"' EXIT
 
-if [ "$1" = --times ]; then
+if [ "${1:-}" = --times ]; then
     rev=$2
     shift 2
     git clone -q . "$room/at"
@@ -26,9 +26,11 @@ if [ "$1" = --times ]; then
     exit
 fi
 
-base=$1
+base=${1:?usage: tools/change.sh BASE [REV]}
 rev=${2:-HEAD}
 changed() { git diff --no-renames -U0 "$base" "$rev" -- "$@"; }
+clauses() { changed 'crates/*.rt' | grep -cE "^[$1] *(requires|ensures)\>" || true; }
+proofs() { git diff --no-renames --name-only --diff-filter="$1" "$base" "$rev" | grep -c '/Proof\.antt$' || true; }
 lines() { grep -E "^[$1]" | grep -vE '^(\+\+\+|---) ' | grep -vcE '^[+-][[:space:]]*(//|--|#|$)' || true; }
 
 git diff --no-renames --name-only "$base" "$rev" | while read -r file; do
@@ -45,8 +47,7 @@ awk '{ n[$1]++; a[$1] += $2; r[$1] += $3 }
 echo
 echo "definitions believed:"
 awk '$1 == "believed" { printf "  %s  +%d -%d\n", $4, $2, $3 }' "$room/files"
-echo "clauses of contracts, of $(git grep -hE '^ *(pub )?(requires|ensures)\>' "$base" -- 'crates/*.rt' | wc -l) before:" \
-    "$(changed 'crates/*.rt' | grep -cE '^- *(requires|ensures)\>' || true) changed or gone," \
-    "$(changed 'crates/*.rt' | grep -cE '^\+ *(requires|ensures)\>' || true) new"
+echo "clauses of contracts, of $(git grep -hE '^ *(requires|ensures)\>' "$base" -- 'crates/*.rt' | wc -l) before:" \
+    "$(clauses -) changed or gone, $(clauses +) new or as changed"
 echo "proofs of functions, of $(git ls-tree -r --name-only "$base" | grep -c '/Proof\.antt$') before:" \
-    "$(grep -c '/Proof\.antt$' "$room/files" || true) changed"
+    "$(proofs M) changed, $(proofs D) gone, $(proofs A) new"
