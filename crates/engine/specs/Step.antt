@@ -38,7 +38,7 @@ memoryIn (done m o) = m
 memoryIn (ask m c f) = m
 memoryIn (tell m c w) = m
 
--- The transport call in flight was made at most 65 times (02, e); of a call that has ended nothing is in flight.
+-- The transport call in flight holds a count of at most 65 (02, e); of a call that has ended nothing is in flight.
 abbrev pub CountedIn : Status → Transfer → Type 0
 CountedIn Running t = Counted t
 CountedIn (Ended o) t = Unit {0}

@@ -7,7 +7,7 @@ use Rattle.transport.specs.declared.Call.{Call}
 use Rattle.transport.specs.declared.Call.the-variants as C
 use Rattle.transport.specs.declared.Transfer.{Transfer}
 
--- it was made at most 65 times, this time included
+-- the count that it holds, of the times that it was made, is at most 65
 abbrev pub Counted : Transfer → Type 0
 Counted t = t .tries ≤ 65
 
