@@ -1,5 +1,5 @@
 -- What a delivered access to DRW or RDBUFF does, where SELECT, CSW and TAR stand as a run wants them. Serves the proofs only.
-use Prim.Native.Nat.{ℕ, _+_, _-_, _%_, _≤_}
+use Prim.Native.Nat.{ℕ, suc, _+_, _-_, _*_, _%_, _≤_, _<_}
 use mathlib.Core.Bool.{Bool, true, false, true≢false}
 use mathlib.Core.Path.{_≡_, refl, sym, ap, _∙_}
 use mathlib.Core.List.{List}
@@ -11,6 +11,7 @@ use Rattle.target.specs.Memory.{inMemory, wordAt, putWord}
 use Rattle.target.specs.MemoryLaws.{in-memory}
 use Rattle.target.specs.Fields.{withRdbuff}
 use Rattle.target.specs.MemAp.{wordAddress, nextTar, advanced, failed, posted}
+use Rattle.target.specs.MemApLaws.{goes-on}
 use Rattle.target.specs.Deliver.{Delivery, ok, fault, replied, transfer as delivered}
 use Rattle.target.specs.DeliverLaws.{by-row}
 use Rattle.target.specs.declared.Target.{Target}
@@ -21,7 +22,7 @@ use Rattle.agreement.specs.Got.{Held}
 pub record Poised (base : ℕ) (t : Target) : Type 0 where
   pub select : t .select ≡ 0
   pub csw : t .csw ≡ CSW-DEFAULT
-  pub width : t .width ≡ 10
+  pub width : 10 ≤ t .width
   pub start : t .base ≡ base
 
 abbrev pub delivery : ℕ → Target → List ℕ → Delivery
@@ -30,6 +31,23 @@ delivery v t mem = record { reply = ok v; target = t; mem = mem }
 abbrev pub refused : Target → List ℕ → Delivery
 refused t mem = record { reply = fault; target = t; mem = mem }
 
+-- n words from a on lie within 1 KiB
+abbrev pub InKiB : (a n : ℕ) → Type 0
+InKiB a n = a % 1024 + 4 * n ≤ 1024
+
+-- TAR stands at word j of a run from a on, as long as words are due. After the last one nothing is said of it: at the end of 1 KiB it
+-- wraps or carries, as the width has it.
+abbrev pub TarAt : (a due j : ℕ) → Target → Type 0
+TarAt a due j t = 0 < due → t .tar ≡ a + 4 * j
+
+-- from word j to the next one, whatever the width
+pub tar-then : {base : ℕ} {t : Target} → Poised base t → (a n due j : ℕ) → InKiB a n → j + suc due ≡ n → t .tar ≡ a + 4 * j
+  → TarAt a due (suc j) (advanced t)
+tar-then {t = t} r a n due j fits count tar some =
+    let next : nextTar t ≡ a + 4 * j + 4 = rw (r .csw, tar) (goes-on (t .width) (a + 4 * j) _ (omega (arith, r .width)) refl (omega arith)) in
+    let e : a + 4 * j + 4 ≡ a + 4 * suc j = omega arith in
+    next ∙ e
+
 -- TAR stands at a word a
 module _ {base a : ℕ} {t : Target} (r : Poised base t) (tar : t .tar ≡ a) (z : a % 4 ≡ 0) where
   word-address : wordAddress t ≡ a
@@ -37,10 +55,6 @@ module _ {base a : ℕ} {t : Target} (r : Poised base t) (tar : t .tar ≡ a) (z
 
   place : wordAddress t - t .base ≡ a - base
   place = rw (r .start, word-address) refl
-
-  -- TAR goes on by 4 inside 1 KiB
-  pub tar-next : a % 1024 + 8 ≤ 1024 → nextTar t ≡ a + 4
-  tar-next h = rw (r .csw, r .width, tar) (omega arith)
 
   module _ (mem : List ℕ) where
     here : inMemory t mem (wordAddress t) ≡ true → (base ≤ a) × (a + 4 ≤ base + length mem)

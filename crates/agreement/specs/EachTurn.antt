@@ -8,11 +8,12 @@ use native.Mathlib.Omega.{arith}
 use Rattle.jobs.specs.Job.{Job, return}
 use Rattle.memory.specs.Memory.{memFrom, moveRun, moveBytes, runWords}
 use Rattle.memory.specs.Turns.{turn-run, turn-ragged, turn-short}
+use Rattle.agreement.specs.Drw.{InKiB}
 
 -- Leads j k: from where k bytes are moved, the job j does as is claimed
 pub record EachTurn (read : Bool) (addr len : ℕ) (Leads : Job → ℕ → Type 0) : Type 0 where
   pub none : Leads (return 0) len
-  pub words : (a at n : ℕ) (next : ℕ → Job) → a ≡ addr + at → a % 4 ≡ 0 → a % 1024 + 4 * n ≤ 1024 → 0 < n → n ≤ 64 → at + 4 * n ≤ len
+  pub words : (a at n : ℕ) (next : ℕ → Job) → a ≡ addr + at → a % 4 ≡ 0 → InKiB a n → 0 < n → n ≤ 64 → at + 4 * n ≤ len
     → Leads (next (4 * n)) (at + 4 * n) → Leads (moveRun read a at n next) at
   pub bytes : (a at count : ℕ) (next : ℕ → Job) → a ≡ addr + at → 0 < count → a % 4 + count ≤ 4 → at + count ≤ len
     → Leads (next count) (at + count) → Leads (moveBytes read a at count next) at

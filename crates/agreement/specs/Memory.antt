@@ -60,7 +60,7 @@ opened false c n h = absurd (true≢false (sym h ∙ n))
 -- the row and the buffer that a memory call begins with
 begins : (x : Moment) → Kept x → x .standing .isOpen ≡ true → (b : List ℕ)
   → Idle (x .target .base) (memoryOf (x .standing .remembered) (replicate 64 0) b) (x .target)
-begins x k o b = record { port = k .port; agree = k .agree o; size = length-replicate {A = ℕ} 64 0; width = k .formed .width; start = refl }
+begins x k o b = record { port = k .port; agree = k .agree o; size = length-replicate {A = ℕ} 64 0; width = k .formed .width .0; start = refl }
 
 -- What the end of a call says, whatever it is.
 module _ (base : ℕ) (mem₀ : List ℕ) (addr : ℕ) (m : Memory) (t : Target) (mem : List ℕ) (b : Bool) where

@@ -11,14 +11,13 @@ use lib.Seq.{getD-set-other, getD-set-same}
 use Rattle.transport.specs.Wire.{Memory}
 use Rattle.memap.specs.Ports.{DRW, RDBUFF, dpRead, apAccess}
 use Rattle.memap.specs.Words.{placed, pull}
-use Rattle.target.specs.MemAp.{nextTar}
 use Rattle.target.specs.Deliver.{transfer as delivered}
 use Rattle.target.specs.declared.Target.{Target}
 use Rattle.agreement.specs.Safe.{Stand, Post}
 use Rattle.agreement.specs.Transfer.{Spot, Stops, Triple, Told, Implies, places, binds}
 use Rattle.agreement.specs.Ports.{Keeps, quietly}
 use Rattle.agreement.specs.Got.{Held, Row}
-use Rattle.agreement.specs.Drw.{tar-next, drw-read, rdbuff-read, stuck-read, stuck-rdbuff}
+use Rattle.agreement.specs.Drw.{InKiB, TarAt, tar-then, drw-read, rdbuff-read, stuck-read, stuck-rdbuff}
 use Rattle.agreement.specs.Running.{Stays, Running, on-same, on-next, on-failed, on-read, run-keeps, stands, select-stands}
 
 -- the memory as it was
@@ -35,7 +34,7 @@ pub record Aimed (base a : ℕ) (old buf : List ℕ) (size : ℕ) (m : Memory) (
 -- in it: j words are in the row, word j is in the read buffer, and `more` reads are due
 pub record Going (base a : ℕ) (old buf : List ℕ) (size more j : ℕ) (m : Memory) (t : Target) (mem : List ℕ) : Type 0 where
   pub running : Running base buf m t
-  pub tar : 0 < more → t .tar ≡ a + 4 * suc j
+  pub tar : TarAt a more (suc j) t
   pub same : mem ≡ old
   pub sized : length (m .words) ≡ size
   pub row : Row base old a j (m .words)
@@ -69,7 +68,7 @@ row-more base old a j v ws l r h q x = go (decLt q j)
     go (yes y) = rw (getD-set-other ws j q v 0 (omega arith)) (r q y)
     go (no y) = let e : q ≡ j = omega arith in rw (e, getD-set-same ws j v 0 l) h
 
-module _ (base a n : ℕ) (old buf : List ℕ) (size : ℕ) (room : n ≤ size) (whole : a % 4 ≡ 0) (fits : a % 1024 + 4 * n ≤ 1024) where
+module _ (base a n : ℕ) (old buf : List ℕ) (size : ℕ) (room : n ≤ size) (whole : a % 4 ≡ 0) (fits : InKiB a n) where
   abbrev F : Stand
   F = Keeps (Stays base (Same old))
 
@@ -80,10 +79,6 @@ module _ (base a n : ℕ) (old buf : List ℕ) (size : ℕ) (room : n ≤ size) 
   keeps m t mem (going x) = run-keeps (x .running) (Same old) (x .same)
   keeps m t mem (stuck r s e) = run-keeps r (Same old) e
 
-  tar-then : {m : Memory} {t : Target} (more j : ℕ) → Running base buf m t → j + suc more ≡ n → t .tar ≡ a + 4 * j → 0 < more
-    → nextTar t ≡ a + 4 * suc j
-  tar-then more j r c tar x = let k : a + 4 * j + 4 ≡ a + 4 * suc j = omega arith in tar-next (r .poised) tar (omega arith) (omega arith) ∙ k
-
   -- the first read of a run; what it answers is left alone
   first-told : 0 < n → Implies (Aimed base a old buf size) (λ m t mem. Told F false (λ _. At (n - 1) 0) m (delivered t mem 0xF 0))
   first-told p m t mem x =
@@ -91,7 +86,7 @@ module _ (base a n : ℕ) (old buf : List ℕ) (size : ℕ) (room : n ≤ size) 
       (λ _. run-keeps (x .running) (Same old) (x .same))
       (λ w h. going (record {
         running = on-read w (on-next (x .running) (m .words));
-        tar = tar-then (n - 1) 0 (x .running) (omega arith) tar;
+        tar = tar-then (x .running .poised) a n (n - 1) 0 fits (omega arith) tar;
         same = x .same;
         sized = x .sized;
         row = λ q l. absurd (omega arith);
@@ -115,7 +110,7 @@ module _ (base a n : ℕ) (old buf : List ℕ) (size : ℕ) (room : n ≤ size) 
         (λ _. run-keeps (x .running) (Same old) (x .same))
         (λ w h. going (record {
           running = on-read w (on-next (x .running) (set (m .words) i (t .rdbuff)));
-          tar = tar-then more (suc j) (x .running) (omega arith) (x .tar (omega arith));
+          tar = tar-then (x .running .poised) a n more (suc j) fits (omega arith) (x .tar (omega arith));
           same = x .same;
           sized = length-set (m .words) i (t .rdbuff) ∙ x .sized;
           row = rw f (row-more base old a j (t .rdbuff) (m .words) (omega (arith, x .sized)) (x .row) (x .held));

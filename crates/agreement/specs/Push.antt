@@ -10,19 +10,18 @@ use Rattle.memap.specs.Action.{transferring, _>>_}
 use Rattle.memap.specs.Ports.{DRW, selectOf, apWrite}
 use Rattle.memap.specs.Words.{rowAt, flush, push, pushAll}
 use Rattle.target.specs.Memory.{putWord}
-use Rattle.target.specs.MemAp.{advanced}
 use Rattle.target.specs.Deliver.{transfer as delivered}
 use Rattle.target.specs.declared.Target.{Target}
 use Rattle.agreement.specs.Safe.{Stand, Post}
 use Rattle.agreement.specs.Transfer.{Spot, Stops, Triple, Told, Sends, Implies, transfers, returns, binds, looks}
 use Rattle.agreement.specs.Ports.{Keeps, quietly}
-use Rattle.agreement.specs.Drw.{tar-next, drw-write, rdbuff-read, stuck-write, stuck-rdbuff}
+use Rattle.agreement.specs.Drw.{InKiB, TarAt, tar-then, drw-write, rdbuff-read, stuck-write, stuck-rdbuff}
 use Rattle.agreement.specs.Running.{Stays, Running, on-next, on-failed, run-keeps, run-lost, stands, select-stands}
 
 -- a run of n words from a on
 pub record Plans (base a n : ℕ) (word : ℕ → ℕ) (N : List ℕ → Type 0) (Plan : ℕ → List ℕ → Type 0) : Type 0 where
   pub whole : a % 4 ≡ 0
-  pub fits : a % 1024 + 4 * n ≤ 1024
+  pub fits : InKiB a n
   pub holds : (j : ℕ) (mem : List ℕ) → Plan j mem → N mem
   pub step : (j : ℕ) (mem : List ℕ) → j < n → base ≤ a + 4 * j → a + 4 * j + 4 ≤ base + length mem → Plan j mem
     → Plan (suc j) (putWord mem (a + 4 * j - base) (word j))
@@ -30,7 +29,7 @@ pub record Plans (base a n : ℕ) (word : ℕ → ℕ) (N : List ℕ → Type 0)
 -- j words are written and `more` are due, or one was outside memory, so that nothing is answered Ok any more
 pub data Pushed (base a : ℕ) (row buf : List ℕ) (N : List ℕ → Type 0) (Plan : ℕ → List ℕ → Type 0) (more j : ℕ)
   (m : Memory) (t : Target) (mem : List ℕ) : Type 0 where
-  going : Running base buf m t → m .words ≡ row → (0 < more → t .tar ≡ a + 4 * j) → Plan j mem
+  going : Running base buf m t → m .words ≡ row → TarAt a more j t → Plan j mem
     → Pushed base a row buf N Plan more j m t mem
   stuck : Running base buf m t → m .words ≡ row → t .sticky ≡ true → N mem → Pushed base a row buf N Plan more j m t mem
 
@@ -73,7 +72,7 @@ module _ (base a n : ℕ) (word : ℕ → ℕ) (row buf : List ℕ) (N : List �
       (run-lost r N (r .poised .start) so);
     told = drw-write (r .poised) tar aligned mem (word j) (Told F false (λ _. At more (suc j)) m)
       (λ _. run-keeps r N so)
-      (λ l h. going (on-next r (m .words)) w goesOn (next l h))
+      (λ l h. going (on-next r (m .words)) w (tar-then (r .poised) a n more j (plans .fits) e tar) (next l h))
       (stuck (on-failed r (m .words)) w refl so) }
     where
       so : N mem
@@ -87,12 +86,6 @@ module _ (base a n : ℕ) (word : ℕ → ℕ) (row buf : List ℕ) (N : List �
 
       next : base ≤ a + 4 * j → a + 4 * j + 4 ≤ base + length mem → Plan (suc j) (putWord mem (a + 4 * j - base) (word j))
       next l h = plans .step j mem (omega arith) l h p
-
-      goesOn : 0 < more → advanced t .tar ≡ a + 4 * suc j
-      goesOn y =
-          let f = plans .fits in
-          let k : a + 4 * j + 4 ≡ a + 4 * suc j = omega arith in
-          tar-next (r .poised) tar aligned (omega arith) ∙ k
   sends more j e m t mem (stuck r w s p) = record {
     now = run-keeps r N p;
     sent = stuck-write t mem (λ d. F m (d .target) (d .mem) true) s (run-lost r N (r .poised .start) p) (word j);

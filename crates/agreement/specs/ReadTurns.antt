@@ -19,6 +19,7 @@ use Rattle.agreement.specs.Transfer.{Stops}
 use Rattle.agreement.specs.Ports.{Keeps, restOf, stops}
 use Rattle.agreement.specs.Rows.{stored-size, part-size, from-size}
 use Rattle.agreement.specs.Got.{Got, got-run, got-part}
+use Rattle.agreement.specs.Drw.{InKiB}
 use Rattle.agreement.specs.EachTurn.{EachTurn, all-turns}
 use Rattle.agreement.specs.Running.{Stays}
 use Rattle.agreement.specs.Pull.{Same, Filled, OneRead}
@@ -58,7 +59,7 @@ module _ (base : ℕ) (old : List ℕ) (addr len : ℕ) (bytes : Bytes old) wher
   ended m t mem x = ((x .idle .start, x .same), x .sized, x .got)
 
   -- a turn that moves n words
-  read-words : (a at n : ℕ) (next : ℕ → Job) → a ≡ addr + at → a % 4 ≡ 0 → a % 1024 + 4 * n ≤ 1024 → 0 < n → n ≤ 64 → at + 4 * n ≤ len
+  read-words : (a at n : ℕ) (next : ℕ → Job) → a ≡ addr + at → a % 4 ≡ 0 → InKiB a n → 0 < n → n ≤ 64 → at + 4 * n ≤ len
     → Leads (next (4 * n)) (at + 4 * n) → Leads (moveRun true a at n next) at
   unfolding exec perform Safe
   read-words a at n next e z fits some room l after m t mem x =

@@ -16,6 +16,7 @@ use Rattle.agreement.specs.Demand3.{Agree}
 use Rattle.agreement.specs.Safe.{Stand, Post}
 use Rattle.agreement.specs.Transfer.{Spot, Stops, Triple, Implies, chooses, binds, from}
 use Rattle.agreement.specs.Ports.{Rest, Keeps, Keeping, Ready, stops, ensures, tars, select-zero}
+use Rattle.agreement.specs.Drw.{InKiB}
 use Rattle.agreement.specs.Running.{Stays, Running}
 use Rattle.agreement.specs.Push.{Plans, Pushed, going, Wrote, push-one, push-all}
 use Rattle.agreement.specs.Pull.{Same, Aimed, Filled, OneRead, pull-first, pull-rest, pull-one}
@@ -24,7 +25,7 @@ use Rattle.agreement.specs.Pull.{Same, Aimed, Filled, OneRead, pull-firs
 pub record Fixed (base : ℕ) (row buf mem : List ℕ) (r : Rest) : Type 0 where
   pub words : r .words ≡ row
   pub buffer : r .buf ≡ buf
-  pub width : r .width ≡ 10
+  pub width : 10 ≤ r .width
   pub start : r .base ≡ base
   pub same : r .mem ≡ mem
 
@@ -33,7 +34,7 @@ pub record Idle (base : ℕ) (m : Memory) (t : Target) : Type 0 where
   pub port : m .remembered .apsel ≡ 0
   pub agree : Agree (m .remembered) t
   pub size : length (m .words) ≡ 64
-  pub width : t .width ≡ 10
+  pub width : 10 ≤ t .width
   pub start : t .base ≡ base
 
 pub idle-keeps : {base : ℕ} {m : Memory} {t : Target} {mem old : List ℕ} → Idle base m t → mem ≡ old
@@ -124,7 +125,7 @@ module _ {Q : Post} {S : Stand} (base a : ℕ) (row buf old : List ℕ) (N : Lis
 module _ {Q : Post} {S : Stand} (base a size : ℕ) (row buf old : List ℕ) (st : Stops S (Keeps (Stays base (Same old))))
   (sized : length row ≡ size) (whole : a % 4 ≡ 0) where
   -- a run is read
-  pub read-run : (n : ℕ) → n ≤ size → a % 1024 + 4 * n ≤ 1024 → 0 < n
+  pub read-run : (n : ℕ) → n ≤ size → InKiB a n → 0 < n
     → Does Q S base row buf old (Same old) (readWords a n (n - 1)) (λ _. Filled base a old buf size n)
   read-run n room fits some =
       set-up base a row buf old (Same old) st refl

@@ -1,4 +1,5 @@
--- Demand 3 as one theorem: every well-formed target, every list of session calls with their budgets and buffers, every line.
+-- Demand 3 as one theorem: every well-formed target, whatever the width of its increment; every list of session calls with their
+-- budgets and buffers; every line.
 use Prim.Native.Nat.{ℕ}
 use mathlib.Core.Bool.{Bool, true, false, false≢true}
 use mathlib.Core.List.{List, [], _∷_}

@@ -23,6 +23,7 @@ use Rattle.agreement.specs.Ports.{Keeps, restOf, stops}
 use Rattle.agreement.specs.Progress.{Progress, progress-put, progress-bytes}
 use Rattle.agreement.specs.Rows.{loaded-size, loaded-at, word-drop}
 use Rattle.agreement.specs.Got.{Held, next-word, next-part}
+use Rattle.agreement.specs.Drw.{InKiB}
 use Rattle.agreement.specs.EachTurn.{EachTurn, all-turns}
 use Rattle.agreement.specs.Running.{Stays}
 use Rattle.agreement.specs.Push.{Plans, Wrote}
@@ -74,7 +75,7 @@ module _ (base : ℕ) (old : List ℕ) (addr : ℕ) (new : List ℕ) (bo : Bytes
   ended m t mem x = (x .idle .start, x .progress)
 
   -- a turn that moves n words
-  write-words : (a at n : ℕ) (next : ℕ → Job) → a ≡ addr + at → a % 4 ≡ 0 → a % 1024 + 4 * n ≤ 1024 → 0 < n → n ≤ 64 → at + 4 * n ≤ length new
+  write-words : (a at n : ℕ) (next : ℕ → Job) → a ≡ addr + at → a % 4 ≡ 0 → InKiB a n → 0 < n → n ≤ 64 → at + 4 * n ≤ length new
     → Leads (next (4 * n)) (at + 4 * n) → Leads (moveRun false a at n next) at
   unfolding exec perform Safe
   write-words a at n next e z fits some room l after m t mem x =

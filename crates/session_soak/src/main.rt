@@ -37,7 +37,9 @@ const ENDED: usize = 4;
 
 const HALF: usize = 56;
 
-const FAILED: usize = 58;
+const WIDTHS: usize = 58;
+
+const FAILED: usize = 61;
 
 // All but the session: the target; the last answer; a line that answers WAIT to the next `waits` transport calls, and else fails
 // at `faults` of 2^32; the generator's number; the transport calls of a list and the losses among them. By the trace alone: whether
@@ -396,8 +398,8 @@ fn opens(was: bool, connect: bool, number: u8, lost: bool) -> bool {
 }
 
 // Counts n more at a place.
-fn count(seen: &mut [u64; 59], place: usize, n: u64) {
-    if place < 59 {
+fn count(seen: &mut [u64; 62], place: usize, n: u64) {
+    if place < 62 {
         seen[place] = plus(seen[place], n);
     }
 }
@@ -415,7 +417,7 @@ fn is_half_done(kind: usize, ok: bool, before: &[u8; 128], after: &[u8; 128], gi
 }
 
 // The call is counted.
-fn counted(kind: usize, result: u8, half: bool, good: bool, seen: &mut [u64; 59]) {
+fn counted(kind: usize, result: u8, half: bool, good: bool, seen: &mut [u64; 62]) {
     count(seen, CALLED, 1);
     count(seen, std::num::wrapping_add_usize(kind, ENDED + 4 * wide(result)), 1);
     count(seen, std::num::wrapping_add_usize(kind, HALF), half as u64);
@@ -423,7 +425,7 @@ fn counted(kind: usize, result: u8, half: bool, good: bool, seen: &mut [u64; 59]
 }
 
 // The checks after a call. Whether the session has to be open now.
-fn checked(w: World, x: Said, a: Asked, was: bool, before: &[u8; 128], after: &[u8; 128], given: &[u8; 32], buf: &[u8; 32], seen: &mut [u64; 59]) -> bool {
+fn checked(w: World, x: Said, a: Asked, was: bool, before: &[u8; 128], after: &[u8; 128], given: &[u8; 32], buf: &[u8; 32], seen: &mut [u64; 62]) -> bool {
     let e = ending_of(x);
     let ok = e.number == 0;
     let kind = kind_of(a.number);
@@ -474,12 +476,17 @@ fn some_faults(x: u32, y: u32) -> u32 {
     }
 }
 
+// How many bits of TAR are incremented, by the other generator, so that all else that is drawn is the same whatever comes here.
+fn some_width(x: u32) -> u32 {
+    10 + other(x) % 23
+}
+
 // A target whose registers are arbitrary; the size field of CSW is always 2.
 fn some_target(x: u32) -> Target {
     Target {
         dpidr: some_dpidr(nth(x, 1)),
         d: some_d(nth(x, 2), nth(x, 3)),
-        width: 10,
+        width: some_width(x),
         base: some_base(nth(x, 4)),
         select: nth(x, 5),
         cdbgpwrupreq: nth(x, 6) % 2 == 0,
@@ -509,7 +516,7 @@ fn begun(w: World, random: u32) -> World {
 }
 
 // A list of at most 11 calls on a fresh session, each with its checks. The first turn of a call is its start, the others steps.
-fn list_of(random: u32, seen: &mut [u64; 59], mem: &mut [u8; 128]) -> World {
+fn list_of(random: u32, seen: &mut [u64; 62], mem: &mut [u8; 128]) -> World {
     let mut w = some_world(random);
     let mut now = idle();
     let mut x = what_said(now);
@@ -545,15 +552,15 @@ fn show(byte: &[u8], n: u64) -> usize {
     0
 }
 
-fn number(seen: &[u64; 59], k: usize) -> u64 {
-    if k < 59 {
+fn number(seen: &[u64; 62], k: usize) -> u64 {
+    if k < 62 {
         return seen[k];
     }
     0
 }
 
 // The text, with the numbers.
-fn print(text: &[u8], seen: &[u64; 59]) {
+fn print(text: &[u8], seen: &[u64; 62]) {
     let mut i: usize = 0;
     let mut k: usize = 0;
     while i < text.len() {
@@ -562,9 +569,18 @@ fn print(text: &[u8], seen: &[u64; 59]) {
     }
 }
 
+// Lists are counted by the width: 10, 11 to 31, and 32.
+fn width_place(width: u32) -> usize {
+    match width {
+        10 => WIDTHS,
+        32 => WIDTHS + 2,
+        _ => WIDTHS + 1,
+    }
+}
+
 fn main() {
     let mut mem = [0u8; 128];
-    let mut seen = [0u64; 59];
+    let mut seen = [0u64; 62];
     let mut x: u32 = 1;
     let mut left = LISTS;
     while 0 < left {
@@ -572,8 +588,9 @@ fn main() {
         let w = list_of(x, &mut seen, &mut mem);
         x = w.random;
         count(&mut seen, LISTED, 1);
+        count(&mut seen, width_place(w.target.width), 1);
         count(&mut seen, MADE, w.made);
         count(&mut seen, LOST, w.losses);
     }
-    print(b"# lists, # calls, # transport calls, # of them lost\nresult: reads, writes, connects, other calls\n0 Ok: #, #, #, #\n1 Transfer: #, #, #, #\n2 Wait: #, #, #, #\n3 NotSupported: #, #, #, #\n4 PowerUpTimeout: #, #, #, #\n5 CoreTimeout: #, #, #, #\n6 NoTarget: #, #, #, #\n7 Internal: #, #, #, #\n8 Range: #, #, #, #\n9 Align: #, #, #, #\n10 NoSession: #, #, #, #\n11 Spent: #, #, #, #\n12 TableEnd: #, #, #, #\nfailed half done: # reads, # writes\n# checks failed\n", &seen);
+    print(b"# lists, # calls, # transport calls, # of them lost\nresult: reads, writes, connects, other calls\n0 Ok: #, #, #, #\n1 Transfer: #, #, #, #\n2 Wait: #, #, #, #\n3 NotSupported: #, #, #, #\n4 PowerUpTimeout: #, #, #, #\n5 CoreTimeout: #, #, #, #\n6 NoTarget: #, #, #, #\n7 Internal: #, #, #, #\n8 Range: #, #, #, #\n9 Align: #, #, #, #\n10 NoSession: #, #, #, #\n11 Spent: #, #, #, #\n12 TableEnd: #, #, #, #\nfailed half done: # reads, # writes\nlists with an increment of 10 bits: #, of 11 to 31: #, of 32: #\n# checks failed\n", &seen);
 }

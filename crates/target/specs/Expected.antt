@@ -1,6 +1,10 @@
 -- Equations that a reader expects of the definitions. They serve no proof.
-use mathlib.Core.Path.{_≡_, refl}
-use Prim.Native.Nat.{ℕ, _+_, _*_, _/_, _%_, _^_, min}
+use mathlib.Core.Path.{_≡_, refl, _∙_}
+use Prim.Native.Nat.{ℕ, _+_, _*_, _/_, _%_, _^_, min, _≤_}
+use native.Mathlib.Nat.{mod-lt, mod-add-mod}
+use native.Mathlib.Omega.{arith}
+use lib.Arith.{digits-div, digits-mod}
+use lib.Pow.{pow-pos}
 use borrow.Author.Tests.{eq-eqb}
 use Rattle.target.specs.declared.Target.{Target}
 use Rattle.target.specs.declared.Register.the-variants.{Dp, Ap}
@@ -9,7 +13,17 @@ use Rattle.target.specs.declared.ApRegister.the-variants as A
 use Rattle.target.specs.Decode.{registerOf}
 use Rattle.target.specs.MemAp.{cswKept, nextTar}
 
--- TAR's low ten bits gain 4 modulo 1024
+-- The rest of TAR stays, and its low `width` bits gain 4 modulo 2^width (reading C1).
+module _ (t : Target) (w : t .width ≤ 32) (i : t .csw / 16 % 4 ≡ 1) where
+  rest-stays : nextTar t / 2 ^ t .width ≡ t .tar / 2 ^ t .width
+  rest-stays = let e : min (t .width) 32 ≡ t .width = omega arith in
+      simp (e, i) (digits-div (t .tar / 2 ^ t .width) (mod-lt _ (pow-pos (t .width))))
+
+  low-gains : nextTar t % 2 ^ t .width ≡ (t .tar + 4) % 2 ^ t .width
+  low-gains = let e : min (t .width) 32 ≡ t .width = omega arith in
+      simp (e, i) (digits-mod (t .tar / 2 ^ t .width) (mod-lt _ (pow-pos (t .width))) ∙ mod-add-mod (t .tar) (2 ^ t .width) 4)
+
+-- with ten bits, as 01 has it
 ten-bits : (t : Target) → t .width ≡ 10 → t .csw / 16 % 4 ≡ 1 → nextTar t ≡ t .tar / 1024 * 1024 + (t .tar % 1024 + 4) % 1024
 ten-bits t w i = simp (w, i)
 

@@ -1,4 +1,4 @@
--- The MEM-AP's registers CSW, TAR and DRW (01: "The model target"; ADIv5.2, chapter C2; readings 17, 19, 24, 25 and 31). A
+-- The MEM-AP's registers CSW, TAR and DRW (01: "The model target"; 02, c; ADIv5.2, chapter C2; readings 17, 19, 24, 25, 31 and C1). A
 -- read is posted: it answers the old read buffer and loads the new value.
 use mathlib.Core.Bool.{Bool, true}
 use mathlib.Core.List.{List}
@@ -21,7 +21,7 @@ cswKept w = w / 8 * 8 + 2
 abbrev pub wordAddress : Target → ℕ
 wordAddress t = t .tar / 4 * 4
 
--- TAR's low `width` bits, 10 in 01, wrap at this number; TAR has 32 bits, so a larger width counts as 32
+-- TAR's low `width` bits wrap at this number; TAR has 32 bits, so a larger width counts as 32
 abbrev pub span : Target → ℕ
 span t = 2 ^ min (t .width) 32
 

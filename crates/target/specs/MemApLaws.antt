@@ -1,12 +1,12 @@
--- What the increment of TAR keeps: whatever the width, the next TAR is a word. A DRW read by the word that memory has. Serves the
--- proofs only.
+-- What the increment of TAR keeps: whatever the width, the next TAR is a word, and within 1 KiB from ten bits on it is 4 more. A DRW
+-- read by the word that memory has. Serves the proofs only.
 use mathlib.Core.Bool.{Bool, true, false}
 use mathlib.Core.Path.{_≡_, refl, sym, ap, _∙_, subst}
 use mathlib.Core.List.{List}
 use Prim.Native.Nat.{ℕ, _+_, _-_, _*_, _/_, _%_, _^_, min, _≤_, _<_}
-use native.Mathlib.Nat.{mod-lt, mod-le, div-mul-le-self}
+use native.Mathlib.Nat.{mod-lt, mod-le, mod-eq-of-lt, div-mul-le-self}
 use native.Mathlib.Omega.{arith}
-use lib.Pow.{pow-pos, pow-add, shr-lt}
+use lib.Pow.{pow-pos, pow-add, shr-lt, split, mod-mod-pow}
 use lib.Arith.{digits-lt}
 use Rattle.target.specs.declared.Target.{Target}
 use Rattle.target.specs.declared.Done.{Done}
@@ -36,6 +36,19 @@ below k tar l h =
 
 pub spanned : (width tar s : ℕ) → tar < 4294967296 → s ≡ 2 ^ min width 32 → Spanned s tar
 spanned width tar s h e = rw e (below (min width 32) tar (omega arith) h)
+
+-- A span of ten bits or more is a multiple of 1024: where 1 KiB does not end, nothing is carried out of the low bits.
+pub goes-on : (width tar s : ℕ) → 10 ≤ width → s ≡ 2 ^ min width 32 → tar % 1024 + 4 < 1024 → tar / s * s + (tar % s + 4) % s ≡ tar + 4
+goes-on width tar s w e h = let k : min width 32 - 10 + 10 ≡ min width 32 = omega arith in rw (e, ← k) (go (min width 32 - 10))
+  where
+    -- below a multiple of 1024, and not at the end of 1 KiB
+    room : (q span low : ℕ) → span ≡ q * 1024 → low < span → low % 1024 ≡ tar % 1024 → low + 4 < span
+    room q span low m l r = omega arith
+
+    go : (j : ℕ) → tar / 2 ^ (j + 10) * 2 ^ (j + 10) + (tar % 2 ^ (j + 10) + 4) % 2 ^ (j + 10) ≡ tar + 4
+    go j =
+        rw (mod-eq-of-lt (room (2 ^ j) _ _ (pow-add 2 j 10) (mod-lt tar (pow-pos (j + 10))) (mod-mod-pow tar j 10)))
+        (omega (arith, split tar (j + 10)))
 
 -- a DRW read by what memory has
 abbrev drwRead : Target → Word → Done

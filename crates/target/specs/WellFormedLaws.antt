@@ -108,7 +108,7 @@ well : {t u : Target} {m n : List ℕ} → Kept t u → Lasts m n → WellFormed
 well k l h =
     record {
       size = k .size (h .size);
-      width = k .width ∙ h .width;
+      width = rw (k .width) (h .width);
       start = rw (k .base) (h .start);
       whole = rw (l .size) (h .whole);
       end = rw (k .base, l .size) (h .end);

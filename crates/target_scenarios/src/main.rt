@@ -292,11 +292,13 @@ fn posted() {
     play(b"posted reads", 2048, &steps);
 }
 
-// The wrap at 1 KiB (01: "TAR's low ten bits gain 4 modulo 1024"; ADIv5.2, C2, auto-incrementing the TAR).
+// The wrap at 1 KiB of an increment of ten bits (01: "TAR's low ten bits gain 4 modulo 1024"; ADIv5.2, C2, auto-incrementing the TAR).
+// The second word is at the start of the same 1 KiB.
 fn wrap() {
     let steps = [
         TAR_WRITE, 0x200003FC,
         DRW_WRITE, 0xAABBCCDD,
+        DRW_WRITE, 0x21222324,
         TAR_READ, 0,
         RDBUFF, 0,
         TAR_WRITE, 0x200007FC,
@@ -305,6 +307,7 @@ fn wrap() {
         RDBUFF, 0,
         BYTE, 0x200003FF,
         BYTE, 0x20000400,
+        BYTE, 0x20000000,
     ];
     play(b"wrap at 1 KiB", 2048, &steps);
 }
@@ -496,22 +499,53 @@ fn top() {
     play(b"memory at the top", 16, &steps);
 }
 
-// The increment's width (docs/DECISIONS.md): 01 has ten bits; with eleven the carry goes one bit further, and above 32 it counts as 32.
-fn widths() {
+// An increment of 12 bits (02, c; ADIv5.2, C2, leaves what lies above ten bits to the maker): the second word is behind 1 KiB. At the
+// end of 4 KiB the carry out of the twelve bits is dropped.
+fn carry_12() {
     let steps = [
-        SET_WIDTH, 11,
+        SET_WIDTH, 12,
         TAR_WRITE, 0x200003FC,
+        DRW_WRITE, 0x11121314,
+        DRW_WRITE, 0x21222324,
+        TAR_READ, 0,
+        RDBUFF, 0,
+        BYTE, 0x200003FC,
+        BYTE, 0x20000400,
+        BYTE, 0x20000000,
+        SET_BASE, 0x20000800,
+        TAR_WRITE, 0x20000FFC,
+        DRW_READ, 0,
+        TAR_READ, 0,
+        RDBUFF, 0,
+    ];
+    play(b"carry at 12 bits", 2048, &steps);
+}
+
+// An increment of 32 bits: the carry goes through all of them, and out of them at 2^32. A larger width, which no target of 02 has,
+// counts as 32 (docs/DECISIONS.md).
+fn carry_32() {
+    let steps = [
+        SET_WIDTH, 32,
+        SET_BASE, 0x1FFFFC00,
+        TAR_WRITE, 0x1FFFFFFC,
+        DRW_WRITE, 0x11121314,
+        DRW_WRITE, 0x21222324,
+        TAR_READ, 0,
+        RDBUFF, 0,
+        BYTE, 0x1FFFFFFC,
+        BYTE, 0x20000000,
+        SET_BASE, 0xFFFFF800,
+        TAR_WRITE, 0xFFFFFFFC,
         DRW_READ, 0,
         TAR_READ, 0,
         RDBUFF, 0,
         SET_WIDTH, 40,
-        SET_BASE, 0xFFFFFFFC,
         TAR_WRITE, 0xFFFFFFFC,
         DRW_READ, 0,
         TAR_READ, 0,
         RDBUFF, 0,
     ];
-    play(b"other widths", 2048, &steps);
+    play(b"carry at 32 bits", 2048, &steps);
 }
 
 fn main() {
@@ -528,7 +562,8 @@ fn main() {
     unaligned();
     line();
     other_calls();
-    widths();
+    carry_12();
+    carry_32();
     ragged();
     top();
 }
