@@ -35,7 +35,7 @@ placed m i v = record { remembered = m .remembered; words = set (m .words) i v; 
 abbrev pub place : ℕ → ℕ → Action
 place i v k m = k (placed m i v) (Value 0)
 
--- as many words as fit below the next multiple of 1024, where TAR's increment ends
+-- as many words as fit below the next multiple of 1024, up to which every TAR goes on
 abbrev pub tarRun : ℕ → ℕ → ℕ
 tarRun addr words = min ((1024 - addr % 1024) / 4) words
 

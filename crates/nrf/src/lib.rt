@@ -87,7 +87,7 @@ fn words_below(stop: u32, n: u32) -> u32
     stop - 4 * n
 }
 
-// As many words as fit below the next multiple of 1024, where TAR's increment ends.
+// As many words as fit below the next multiple of 1024, up to which every TAR goes on.
 fn tar_run(addr: u32, words: u32) -> u32
     ensures { λ r. ⌜ r ≡ tarRun addr words ⌝ }
 {

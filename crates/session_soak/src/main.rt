@@ -12,8 +12,8 @@ use transport::{Answer, Call, Remembered};
 
 const LISTS: u32 = 100000;
 
-// How many bytes of memory a target has.
-const BYTES: u32 = 128;
+// How many bytes of memory a target has: a whole 1 KiB, so that an increment that wraps stays in it, and some more.
+const BYTES: u32 = 1152;
 
 // The kinds of calls.
 const READ: usize = 0;
@@ -300,10 +300,11 @@ fn some_len(number: u32, x: u32) -> u32 {
     }
 }
 
-// An address in or near the memory, few of them of no whole word for a word, half of them for bytes. A call that is no read or write
-// gets a small number as register, polls or address.
+// An address near the start of the memory or 1 KiB behind it, few of them of no whole word for a word, half of them for bytes. A call
+// that is no read or write gets a small number as register, polls or address.
 fn some_addr(number: u32, base: u32, x: u32) -> u32 {
-    let a = std::num::wrapping_sub_u32(std::num::wrapping_add_u32(base, nth(x, 5) % 144), 8);
+    let n = nth(x, 5) % 288;
+    let a = std::num::wrapping_sub_u32(std::num::wrapping_add_u32(base, n % 144 + n / 144 * 1024), 8);
     let odd = nth(x, 6) % 16;
     match number {
         9 | 10 => a - a % 4 + odd / 15,
@@ -372,11 +373,11 @@ fn byte_kept(writes: bool, must: bool, within: bool, old: u8, now: u8, given: u8
 
 // Whether a range lies in memory: `from` is how far behind its start.
 fn inside(from: u32, len: u32) -> bool {
-    (from as u64) + (len as u64) <= 128
+    (from as u64) + (len as u64) <= BYTES as u64
 }
 
 // Clauses 3 and 4, for a call that reads or writes `len` bytes, `from` behind the start of memory.
-fn memory_kept(writes: bool, ok: bool, from: u32, len: u32, before: &[u8; 128], after: &[u8; 128], given: &[u8; 32]) -> bool {
+fn memory_kept(writes: bool, ok: bool, from: u32, len: u32, before: &[u8; 1152], after: &[u8; 1152], given: &[u8; 32]) -> bool {
     let mut good = !ok | (len == 0) | inside(from, len);
     let mut i: u32 = 0;
     while i < BYTES {
@@ -412,7 +413,7 @@ fn wide(x: u8) -> usize
 
 // Whether a read that failed has given some bytes, or a write that failed has left some new. `given` is the buffer as the call
 // found it.
-fn is_half_done(kind: usize, ok: bool, before: &[u8; 128], after: &[u8; 128], given: &[u8; 32], buf: &[u8; 32]) -> bool {
+fn is_half_done(kind: usize, ok: bool, before: &[u8; 1152], after: &[u8; 1152], given: &[u8; 32], buf: &[u8; 32]) -> bool {
     !ok & (((kind == READ) & !check::same(given, buf)) | ((kind == WRITE) & !check::same(before, after)))
 }
 
@@ -425,7 +426,7 @@ fn counted(kind: usize, result: u8, half: bool, good: bool, seen: &mut [u64; 62]
 }
 
 // The checks after a call. Whether the session has to be open now.
-fn checked(w: World, x: Said, a: Asked, was: bool, before: &[u8; 128], after: &[u8; 128], given: &[u8; 32], buf: &[u8; 32], seen: &mut [u64; 62]) -> bool {
+fn checked(w: World, x: Said, a: Asked, was: bool, before: &[u8; 1152], after: &[u8; 1152], given: &[u8; 32], buf: &[u8; 32], seen: &mut [u64; 62]) -> bool {
     let e = ending_of(x);
     let ok = e.number == 0;
     let kind = kind_of(a.number);
@@ -445,8 +446,8 @@ fn some_base(x: u32) -> u32 {
     match x % 16 {
         0 => 0xE000ED80,
         1 => 0xE0002000,
-        2 => 0xFFFFFF80,
-        _ => 0x200003C0,
+        2 => 0xFFFFFB80,
+        _ => 0x1FFFFFC0,
     }
 }
 
@@ -516,7 +517,7 @@ fn begun(w: World, random: u32) -> World {
 }
 
 // A list of at most 11 calls on a fresh session, each with its checks. The first turn of a call is its start, the others steps.
-fn list_of(random: u32, seen: &mut [u64; 62], mem: &mut [u8; 128]) -> World {
+fn list_of(random: u32, seen: &mut [u64; 62], mem: &mut [u8; 1152]) -> World {
     let mut w = some_world(random);
     let mut now = idle();
     let mut x = what_said(now);
@@ -579,7 +580,7 @@ fn width_place(width: u32) -> usize {
 }
 
 fn main() {
-    let mut mem = [0u8; 128];
+    let mut mem = [0u8; 1152];
     let mut seen = [0u64; 62];
     let mut x: u32 = 1;
     let mut left = LISTS;

@@ -484,7 +484,7 @@ fn ragged() {
     play(b"six bytes from 20000002", 6, &steps);
 }
 
-// Memory that passes 2^32 (docs/DECISIONS.md): addresses are numbers, so that its last bytes are out of reach. TAR wraps within its
+// Memory that passes 2^32 (docs/DECISIONS.md): addresses are numbers, so that its last bytes are out of reach. TAR wraps within
 // ten bits.
 fn top() {
     let steps = [

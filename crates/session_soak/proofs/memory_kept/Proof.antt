@@ -5,10 +5,10 @@ use Rattle.session_soak.proofs.memory_kept.Statement.{statement}
 use Rattle.session_soak.proofs.memory_kept.Tie as tie
 
 abbrev Inv-loop : tie.InvT-loop
-Inv-loop writes ok from len before after given good₀ i₀ good i = i ≤ 128
+Inv-loop writes ok from len before after given good₀ i₀ good i = i ≤ 1152
 
 abbrev μ-loop : tie.MeasureT-loop
-μ-loop writes ok from len before after given good₀ i₀ good i = 128 - i
+μ-loop writes ok from len before after given good₀ i₀ good i = 1152 - i
 
 pub memory-kept-spec : {M : Type 1} → statement M
 memory-kept-spec = tie.close (tie.spec
