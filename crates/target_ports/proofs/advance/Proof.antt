@@ -18,7 +18,7 @@ pub advance-spec : {M : Type 1} → statement M
 advance-spec =
     tie.close (tie.spec
     (λ c κs. search needs) (λ c. search needs)
-    (λ c. known c .positive) (λ c. let h = known c in omega arith)
-    (λ c. known c .positive) (λ c. let h = known c in omega arith)
-    (λ c. known c .positive) (λ c. let h = known c in omega arith) (λ c. let h = known c in omega arith)
+    (λ c. let h = known c in omega arith) (λ c. let h = known c in omega arith) (λ c. let h = known c in omega arith)
+    (λ c. let h = known c in omega arith) (λ c. let h = known c in omega arith) (λ c. let h = known c in omega arith)
+    (λ c. let h = known c in omega arith)
     (λ c. rw (eq-eqb _ _ (c .before .before .if1 .taken), c .before .span-of .ensures)) (λ c. rw (ne-eqb _ _ (c .if1 .left))))
