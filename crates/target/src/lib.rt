@@ -10,7 +10,7 @@ ghost use Rattle.target.specs.DecodeLaws.{registerAt};
 use transport::Answer;
 
 // DPIDR, d, the increment's width and the memory's base are fixed for a target, the rest starts arbitrary. `owed` counts the
-// reads of CTRL/STAT that do not show the acks yet; d is what a power-up owes.
+// reads of CTRL/STAT that do not show the acks yet; d is what a power-up owes. Of TAR the low `width` bits are incremented, 10 to 32.
 pub struct Target {
     pub dpidr: u32,
     pub d: u32,
