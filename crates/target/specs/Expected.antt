@@ -1,7 +1,7 @@
 -- Equations that a reader expects of the definitions. They serve no proof.
 use mathlib.Core.Bool.{false}
 use mathlib.Core.Path.{_≡_, refl, _∙_}
-use mathlib.Core.List.{List, []}
+use mathlib.Core.List.{[]}
 use Prim.Native.Nat.{ℕ, _+_, _*_, _/_, _%_, _^_, min, _≤_}
 use native.Mathlib.Nat.{mod-lt, mod-add-mod}
 use native.Mathlib.Omega.{arith}
@@ -18,13 +18,15 @@ use Rattle.target.specs.WellFormed.{WellFormed}
 
 -- The rest of TAR stays, and its low `width` bits gain 4 modulo 2^width (reading C1).
 module _ (t : Target) (w : t .width ≤ 32) (i : t .csw / 16 % 4 ≡ 1) where
+  all-of-it : min (t .width) 32 ≡ t .width
+  all-of-it = omega arith
+
   rest-stays : nextTar t / 2 ^ t .width ≡ t .tar / 2 ^ t .width
-  rest-stays = let e : min (t .width) 32 ≡ t .width = omega arith in
-      simp (e, i) (digits-div (t .tar / 2 ^ t .width) (mod-lt _ (pow-pos (t .width))))
+  rest-stays = simp (all-of-it, i) (digits-div (t .tar / 2 ^ t .width) (mod-lt _ (pow-pos (t .width))))
 
   low-gains : nextTar t % 2 ^ t .width ≡ (t .tar + 4) % 2 ^ t .width
-  low-gains = let e : min (t .width) 32 ≡ t .width = omega arith in
-      simp (e, i) (digits-mod (t .tar / 2 ^ t .width) (mod-lt _ (pow-pos (t .width))) ∙ mod-add-mod (t .tar) (2 ^ t .width) 4)
+  low-gains =
+      simp (all-of-it, i) (digits-mod (t .tar / 2 ^ t .width) (mod-lt _ (pow-pos (t .width))) ∙ mod-add-mod (t .tar) (2 ^ t .width) 4)
 
 -- With ten bits, as 01 has it.
 ten-bits : (t : Target) → t .width ≡ 10 → t .csw / 16 % 4 ≡ 1 → nextTar t ≡ t .tar / 1024 * 1024 + (t .tar % 1024 + 4) % 1024
