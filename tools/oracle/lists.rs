@@ -106,6 +106,8 @@ fn known(rng: &mut Rng) -> Vec<Vec<Planned>> {
         vec![make(6, 3, 0), make(5, 1, 0), make(1, 1, 0), make(9, read, 0), make(3, 0, 0), make(9, read, 0)],
         vec![make(23, 0x2001, 0), make(24, 0, 2), make(25, 0x2001, 2)],
         vec![make(26, 0x102, 0), make(28, 0x102, 0), make(27, 0x102, 0)],
+        // An odd address is taken for the even one below it.
+        vec![make(26, 0x103, 0), make(28, 0x103, 0), make(27, 0x103, 0)],
         vec![make(32, 0x3F8, 2), make(29, 0, 0), make(31, 0x1FFF, 2), make(35, 0x3F8, 2)],
     ];
     // A connect that is lost at once forgets nothing.

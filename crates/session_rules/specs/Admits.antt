@@ -7,6 +7,8 @@ use Rattle.transport.specs.declared.ArmError.{ArmError}
 use Rattle.transport.specs.declared.ArmError.the-variants as E
 use Rattle.connect.specs.declared.ConnectCall.the-variants as N
 use Rattle.memory.specs.declared.MemoryCall.the-variants as M
+use Rattle.fpb.specs.declared.FpbCall.{FpbCall}
+use Rattle.fpb.specs.declared.FpbCall.the-variants as B
 use Rattle.calls.specs.declared.EngineCall.{EngineCall}
 use Rattle.calls.specs.declared.EngineCall.the-variants as C
 use Rattle.session_rules.specs.declared.SessionCall.{SessionCall}
@@ -37,7 +39,13 @@ abbrev pub unless : Bool → ArmError → Check → Check
 unless true e next = next
 unless false e next = Refuse e
 
--- 9 and 10 want a multiple of 4
+-- where a breakpoint is set, cleared or asked for
+abbrev pub breakpoint : FpbCall → ℕ
+breakpoint (B.HwBreakpointSet addr) = addr
+breakpoint (B.HwBreakpointClear addr) = addr
+breakpoint (B.HwBreakpointAt addr) = addr
+
+-- 9 and 10 want a multiple of 4, and 26 to 28 an even address: a Thumb function pointer has bit 0 set, and no instruction lies there
 abbrev pub aligned : SessionCall → Bool
 aligned S.ConnectSwd = true
 aligned (S.ReadWord addr) = eqb (addr % 4) 0
@@ -45,7 +53,7 @@ aligned (S.WriteWord addr word) = eqb (addr % 4) 0
 aligned (S.ReadMem addr) = true
 aligned (S.WriteMem addr) = true
 aligned (S.Core c) = true
-aligned (S.Fpb c) = true
+aligned (S.Fpb c) = eqb (breakpoint c % 2) 0
 
 -- 13 and 14 end below 2^32
 abbrev pub ranged : SessionCall → ℕ → Bool

@@ -1,2 +1,3 @@
 pub mod Admits
 pub mod Session
+pub mod Expected

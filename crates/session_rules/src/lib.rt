@@ -3,7 +3,7 @@ ghost use mathlib.Core.Bool.{not};
 ghost use mathlib.Core.Path.{_≡_};
 ghost use Prim.Native.Nat.{_+_};
 ghost use lib.Dec.{leb};
-ghost use Rattle.session_rules.specs.Admits.{engineCall, isConnect, aligned, ranged, admitted, refusal};
+ghost use Rattle.session_rules.specs.Admits.{engineCall, isConnect, breakpoint, aligned, ranged, admitted, refusal};
 ghost use Rattle.calls.specs.Calls.{coreFrame};
 ghost use Rattle.session_rules.specs.Session.{kindBy, kindOf};
 use calls::{EngineCall, Frame};
@@ -71,7 +71,18 @@ fn is_admitted(now_open: bool, c: SessionCall) -> bool
     is_connect(c)
 }
 
-// Calls 9 and 10 want a multiple of 4.
+// Where a breakpoint is set, cleared or asked for.
+fn breakpoint_of(c: FpbCall) -> u32
+    ensures { λ r. ⌜ r ≡ breakpoint c ⌝ }
+{
+    match c {
+        FpbCall::HwBreakpointSet(addr) => addr,
+        FpbCall::HwBreakpointClear(addr) => addr,
+        FpbCall::HwBreakpointAt(addr) => addr,
+    }
+}
+
+// Calls 9 and 10 want a multiple of 4, calls 26 to 28 an even address.
 fn is_aligned(c: SessionCall) -> bool
     ensures { λ r. ⌜ r ≡ aligned c ⌝ }
 {
@@ -82,7 +93,7 @@ fn is_aligned(c: SessionCall) -> bool
         SessionCall::ReadMem(_) => true,
         SessionCall::WriteMem(_) => true,
         SessionCall::Core(_) => true,
-        SessionCall::Fpb(_) => true,
+        SessionCall::Fpb(q) => breakpoint_of(q) % 2 == 0,
     }
 }
 

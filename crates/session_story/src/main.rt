@@ -1,28 +1,29 @@
-// The accident that this project began with, step by step: the answer to a SELECT write is lost, and then the hours word is asked
-// for. Then lists of calls with their endings. The file stdout beside src/ has what 01 says of each.
+// Two stories, with every transport call shown. First the accident that this project began with: the answer to a SELECT write is lost,
+// and then the hours word is asked for. Then a Thumb function pointer, pasted for the address of a breakpoint. After them lists of calls
+// with their endings. The file stdout beside src/ has what 01 and 02 say of each.
 //
-// The file stdin beside src/ has the titles, and the lists. First come the accident's title and those of its four calls. Then of each
-// list a line is its title; in the next line are five numbers: what the line does (1 WAIT; 30 a loss after delivery and 31 one before
-// it, both with ack 7), from which transport call on, and to how many (it delivers the others); how many bytes of the buffers are
-// shown; and how many calls there are, four at most. Then comes a line for each call: its number, budget, bytes, and first two
-// arguments. Numbers are decimal, or hexadecimal after 0x; what stands between them is not read.
+// The file stdin beside src/ has the titles, the stories and the lists. Of a story a line is its title; in the next line are five
+// numbers: where the memory starts, a word in it and that word's address, at which turn the answer is lost (every transport call and
+// every ending is a turn; 0 for none), and how many calls there are. Then come two lines for each call: its title, and its number
+// and first two arguments. Of each list a line is its title; in the next line are five numbers: what the line does (1 WAIT; 30 a loss
+// after delivery and 31 one before it, both with ack 7), from which transport call on, and to how many (it delivers the others); how
+// many bytes of the buffers are shown; and how many calls there are, four at most. Then comes a line for each call: its number, budget,
+// bytes, and first two arguments. Numbers are decimal, or hexadecimal after 0x; what stands between them is not read.
 ghost use Prim.Native.Nat.{_<_, _≤_};
 use engine::NextStep;
 use numbers::{CallEnding, TransportCall};
+use session_items::Listed;
 use session_rules::SessionCall;
 use target::{Act, Delivered, Loss, Target};
 use transport::{Answer, Call};
 
-// Where the hours word lies, in 1 KiB of memory.
-const HOURS: u32 = 0x20000010;
-
 // A controller after a reset: not powered, another bank selected, an ID register's value left in the read buffer.
-fn controller() -> Target {
+fn controller(base: u32) -> Target {
     Target {
         dpidr: 0x0BC12477,
         d: 1,
         width: 10,
-        base: 0x20000000,
+        base: base,
         select: 0xF0,
         cdbgpwrupreq: false,
         csyspwrupreq: false,
@@ -184,71 +185,75 @@ fn call_of(c: TransportCall) -> Call {
     Call::Connect
 }
 
-// The line delivers, but loses the answer of the ninth transport call of all, in the first connect.
-fn act(n: u32) -> Act {
-    if n == 9 {
+// The line delivers, but loses the answer at turn `lost`.
+fn act(n: u32, lost: u32) -> Act {
+    if n == lost {
         return Act::Lose { delivered: true, error: Loss::Other };
     }
     Act::Deliver
 }
 
-// The story's calls, by how many follow: connect and read, and the same afresh.
-fn story_call(left: u32) -> SessionCall {
-    if left % 2 == 1 {
-        return SessionCall::ConnectSwd;
+// The next call of a story; its title is shown. What is no call of a session counts as a connect.
+fn story_call() -> SessionCall {
+    title_line();
+    let number = next_number();
+    let addr = next_number();
+    let word = next_number();
+    match session_items::call_at(&[number, 0, 0, addr, word, 0, 0, 0, 0, 0, 0], 0) {
+        Listed::Call(c) => c,
+        Listed::Nothing => SessionCall::ConnectSwd,
     }
-    SessionCall::ReadWord(HOURS)
 }
 
 // One transport call over the line, shown with its answer.
-fn one_shown(t: Target, c: TransportCall, n: u32, mem: &mut [u8]) -> Delivered {
-    let d = target_line::over_line(t, call_of(c), act(n), mem);
+fn one_shown(t: Target, c: TransportCall, act: Act, mem: &mut [u8]) -> Delivered {
+    let d = target_line::over_line(t, call_of(c), act, mem);
     let a = d.answer;
     show_call(c);
     show_answer(a);
     d
 }
 
-// Every transport call is shown; there are at most 64 of them and of endings. The calls are lent no bytes.
-fn tell(mem: &mut [u8; 1024]) {
-    let mut t = controller();
-    let mut left: u32 = 3;
-    title_line();
+// Every transport call is shown; a story has at most 128 turns. The calls are lent no bytes.
+fn tell(first: Target, lost: u32, calls: u32, mem: &mut [u8; 1024]) {
+    let mut t = first;
+    let mut left = calls;
     let mut none = [0u8; 0];
-    let mut now = session::session_start(session::fresh(), story_call(left), &mut none);
+    let mut now = session::session_start(session::fresh(), story_call(), &mut none);
     let mut n: u32 = 0;
-    while n < 64 {
+    while n < 128 {
         n += 1;
         let mut none = [0u8; 0];
         let reply = now.reply;
         let next = reply.next;
         match next {
             NextStep::Make(c) => {
-                let d = one_shown(t, c, n, mem);
+                let d = one_shown(t, c, act(n, lost), mem);
                 t = d.target;
                 let a = d.answer;
                 now = session::session_step(now.session, a, &mut none);
             }
             NextStep::Finish(e) => {
                 show_end(e, session::open(now.session));
-                if left == 0 {
+                if left <= 1 {
                     return;
                 }
                 left -= 1;
-                title_line();
-                now = session::session_start(now.session, story_call(left), &mut none);
+                now = session::session_start(now.session, story_call(), &mut none);
             }
         }
     }
 }
 
-// The hours word is 0x00003039: 12,345 hours.
-fn accident() {
-    let mut mem = [0u8; 1024];
-    mem[16] = 0x39;
-    mem[17] = 0x30;
+// The next story.
+fn story() {
     title_line();
-    tell(&mut mem);
+    let t = controller(next_number());
+    let mut mem = [0u8; 1024];
+    let word = next_number();
+    target::store_word(t, next_number(), word, &mut mem);
+    let lost = next_number();
+    tell(t, lost, next_number(), &mut mem);
 }
 
 // The records of a list: of the eleven words of a call the first five are read.
@@ -318,7 +323,7 @@ pub struct Left {
 // Runs a list over the controller.
 fn run(items: &[u32], acts: &[u32], bytes: &mut [u8], results: &mut [u64]) -> Left {
     let mut mem = [0u8; 1024];
-    let r = session_run::run_list(session::fresh(), items, acts, controller(), &mut mem, bytes, results);
+    let r = session_run::run_list(session::fresh(), items, acts, controller(0x20000000), &mut mem, bytes, results);
     Left { calls: r.calls, open: session::open(r.session) }
 }
 
@@ -349,7 +354,8 @@ fn list() {
 
 // At most 100 lists.
 fn main() {
-    accident();
+    story();
+    story();
     let mut left: u32 = 100;
     while 0 < left {
         left -= 1;
