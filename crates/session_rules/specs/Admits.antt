@@ -45,7 +45,7 @@ breakpoint (B.HwBreakpointSet addr) = addr
 breakpoint (B.HwBreakpointClear addr) = addr
 breakpoint (B.HwBreakpointAt addr) = addr
 
--- 9 and 10 want a multiple of 4, and 26 to 28 an even address: a Thumb function pointer has bit 0 set, and no instruction lies there
+-- 9 and 10 want a multiple of 4, 26 to 28 an even address (02, h): a Thumb function pointer has bit 0 set, and no instruction lies there
 abbrev pub aligned : SessionCall → Bool
 aligned S.ConnectSwd = true
 aligned (S.ReadWord addr) = eqb (addr % 4) 0
