@@ -5,7 +5,7 @@ kind() {
     case $1 in
         crates/*/src/*.rt) echo code ;;
         crates/*/specs/*Laws.antt | crates/*/specs/Expected.antt | crates/*/specs/Theorem.antt | crates/*/specs/InStep.antt) echo other ;;
-        crates/cases/specs/* | crates/*/specs/Lib.antt) echo other ;;
+        crates/test_cases/specs/* | crates/*/specs/Lib.antt) echo other ;;
         crates/*/specs/*.antt) if head -n 3 | grep -qi 'serves* the proofs'; then echo other; else echo believed; fi ;;
         crates/*/proofs/*.antt) echo proofs ;;
         crates/*/must-fail/*.edit) echo edits ;;

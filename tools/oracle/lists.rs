@@ -1,4 +1,4 @@
-//! Lists of calls on one engine, as `crates/lists` reads them, and what the
+//! Lists of calls on one engine, as `crates/test_lists` reads them, and what the
 //! unchanged Rust does. tools/README.md has the format.
 
 use super::{answer, faults, Case, Rng, Target, OK};
@@ -7,7 +7,7 @@ use std::cell::RefCell;
 
 /// As many transport calls are printed; of a longer call only their number.
 const SHOWN: usize = 1000;
-/// As many answers as `crates/lists` has room for.
+/// As many answers as `crates/test_lists` has room for.
 const ROOM: usize = 16_384;
 
 /// A call, and the answers put into its run; without a target every other
@@ -56,7 +56,7 @@ impl Planned {
         }
     }
 
-    /// The call as `crates/lists` reads it.
+    /// The call as `crates/test_lists` reads it.
     fn record(&self, new: bool) -> Vec<u8> {
         let (mut args, words, bytes) = self.lent();
         args.resize(8, 0);

@@ -5,15 +5,15 @@ use mathlib.Core.List.{List, [], _∷_}
 use mathlib.Core.Path.{_≡_}
 use lib.Dec.{eqb, leb, ltb}
 use lib.ListN.{length, getD, drop}
-use Rattle.transport.specs.Bytes.{leBytes}
-use Rattle.transport.specs.Wire.{Ending, ended, spent, succeeds}
-use Rattle.transport.specs.declared.Call.{Call}
-use Rattle.transport.specs.declared.Call.the-variants as W
-use Rattle.transport.specs.declared.Answer.{Answer}
-use Rattle.transport.specs.declared.Answer.the-variants.{Good, SwdError, NotSupported, Other}
-use Rattle.transport.specs.declared.Outcome.the-variants.{Value, Failed}
-use Rattle.transport.specs.declared.Remembered.{Remembered}
-use Rattle.memap.specs.Ports.{CSW-DEFAULT}
+use Rattle.wire.specs.Bytes.{leBytes}
+use Rattle.wire.specs.Wire.{Ending, ended, spent, succeeds}
+use Rattle.wire.specs.declared.Call.{Call}
+use Rattle.wire.specs.declared.Call.the-variants as W
+use Rattle.wire.specs.declared.Answer.{Answer}
+use Rattle.wire.specs.declared.Answer.the-variants.{Good, SwdError, NotSupported, Other}
+use Rattle.wire.specs.declared.Outcome.the-variants.{Value, Failed}
+use Rattle.wire.specs.declared.Remembered.{Remembered}
+use Rattle.wire_memap.specs.Ports.{CSW-DEFAULT}
 use Rattle.target.specs.Choice.{pick}
 use Rattle.target.specs.Memory.{byteAt}
 use Rattle.target.specs.declared.Target.{Target}
@@ -75,7 +75,9 @@ madeIf k x i acts = record {
   after = record {
     standing = checked k (x .standing) (i .call) (i .buf) (heardIf k x i acts .answers) .after;
     target = heardIf k x i acts .target;
-    mem = heardIf k x i acts .mem } }
+    mem = heardIf k x i acts .mem;
+  };
+}
 
 abbrev pub made : Moment → Item → List Act → Made
 made x i acts = madeIf (refusal (x .standing .isOpen) (i .call) (length (i .buf))) x i acts
@@ -210,5 +212,5 @@ unfoldable pub openTold : Bool → Standing → List Told → Bool
 openTold was s [] = was
 openTold was s (x ∷ xs) =
     openTold (openNext was (x .call) (called s (x .call) (x .buf) (x .answers) .calls) (x .answers) (called s (x .call) (x .buf)
-        (x .answers) .ending))
+    (x .answers) .ending))
     (called s (x .call) (x .buf) (x .answers) .after) xs

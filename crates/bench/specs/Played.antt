@@ -3,12 +3,12 @@ use Prim.Native.Nat.{ℕ}
 use mathlib.Core.List.{List}
 use mathlib.Core.Path.{_≡_}
 use lib.ListN.{length, replicate}
-use Rattle.transport.specs.Wire.{play, Played}
-use Rattle.core.specs.declared.Function.{Function}
-use Rattle.jobs.specs.Change.{fresh}
-use Rattle.calls.specs.Calls.{callTree, rowFor}
+use Rattle.wire.specs.Wire.{play, Played}
+use Rattle.call_core.specs.declared.Function.{Function}
+use Rattle.call.specs.Change.{fresh}
+use Rattle.engine_calls.specs.Calls.{callTree, rowFor}
 use Rattle.engine_run.specs.Run.{within, logged}
-use Rattle.calls.specs.declared.EngineCall.{EngineCall}
+use Rattle.engine_calls.specs.declared.EngineCall.{EngineCall}
 
 abbrev pub playedNew : EngineCall → ℕ → List ℕ → List ℕ → Played
 playedNew c budget answers buf = play (callTree c fresh (rowFor c (replicate 8 0)) (replicate 1 0) buf) (within budget answers)

@@ -1,7 +1,8 @@
 // Reads a script from standard input and writes its listing to standard output.
 ghost use mathlib.Core.Path.{_≡_};
 ghost use lib.ListN.{length};
-use libc::{STDIN_FILENO, STDOUT_FILENO};
+use libc::STDIN_FILENO;
+use libc::STDOUT_FILENO;
 
 // A script has at most 65,536 bytes; one more shows that it has too many.
 fn input_room() -> [u8; 65537]

@@ -3,16 +3,16 @@ use Prim.Native.Nat.{ℕ}
 use mathlib.Core.Bool.{Bool}
 use mathlib.Core.List.{List, []}
 use mathlib.Core.Path.{_≡_}
-use Rattle.transport.specs.Bytes.{handed, padded}
-use Rattle.transport.specs.Wire.{Wire, Memory, memoryOf, done, ask, tell, follow}
-use Rattle.transport.specs.Count.{Counted}
-use Rattle.transport.specs.declared.Transfer.{Transfer}
-use Rattle.transport.specs.declared.Answer.{Answer}
-use Rattle.transport.specs.declared.Outcome.{Outcome}
-use Rattle.numbers.specs.Results.{resultOf}
-use Rattle.numbers.specs.Numbers.{numbersOf}
-use Rattle.calls.specs.Calls.{pick}
-use Rattle.engine.specs.State.{stateTree}
+use Rattle.wire.specs.Bytes.{handed, padded}
+use Rattle.wire.specs.Wire.{Wire, Memory, memoryOf, done, ask, tell, follow}
+use Rattle.wire.specs.Count.{Counted}
+use Rattle.wire.specs.declared.Transfer.{Transfer}
+use Rattle.wire.specs.declared.Answer.{Answer}
+use Rattle.wire.specs.declared.Outcome.{Outcome}
+use Rattle.wire_numbers.specs.Results.{resultOf}
+use Rattle.wire_numbers.specs.Numbers.{numbersOf}
+use Rattle.engine_calls.specs.Calls.{pick}
+use Rattle.engine.specs.Laws.State.{stateTree}
 use Rattle.engine.specs.declared.NextStep.{NextStep}
 use Rattle.engine.specs.declared.NextStep.the-variants as N
 use Rattle.engine.specs.declared.State.{State}

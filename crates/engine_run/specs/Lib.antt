@@ -1,3 +1,2 @@
 pub mod Run
-pub mod Along
-pub mod Runs
+pub mod Laws

@@ -4,13 +4,13 @@ use mathlib.Core.Path.{_≡_}
 use mathlib.Core.List.{List, map}
 use lib.ListN.{length, take}
 use lib.Seq.{sets}
-use Rattle.transport.specs.Wire.{memoryOf, Played}
-use Rattle.transport.specs.declared.Call.{Call}
-use Rattle.transport.specs.declared.Answer.{Answer}
-use Rattle.numbers.specs.Results.{endingOf}
-use Rattle.numbers.specs.Log.{answerOf, codeOf, callOf}
-use Rattle.calls.specs.Calls.{wordsLeft, frameLeft}
-use Rattle.calls.specs.declared.EngineCall.{EngineCall}
+use Rattle.wire.specs.Wire.{memoryOf, Played}
+use Rattle.wire.specs.declared.Call.{Call}
+use Rattle.wire.specs.declared.Answer.{Answer}
+use Rattle.wire_numbers.specs.Results.{endingOf}
+use Rattle.wire_numbers.specs.Log.{answerOf, codeOf, callOf}
+use Rattle.engine_calls.specs.Calls.{wordsLeft, frameLeft}
+use Rattle.engine_calls.specs.declared.EngineCall.{EngineCall}
 use Rattle.engine_run.specs.declared.Ran.{Ran}
 
 -- The answers that a call gets: as many as the budget admits. They are what is left of the budget, so that fewer answers are a

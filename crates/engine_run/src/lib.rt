@@ -2,19 +2,26 @@
 ghost use mathlib.Core.Path.{_≡_};
 ghost use Prim.Native.Nat.{_≤_};
 ghost use lib.ListN.{length, take};
-ghost use Rattle.transport.specs.Wire.{memoryOf, play};
-ghost use Rattle.memap.specs.Words.{pull, push};
-ghost use Rattle.memap.specs.Ops.{perform};
-ghost use Rattle.jobs.specs.Job.{exec};
-ghost use Rattle.calls.specs.Calls.{callTree, rowFor};
-ghost use Rattle.calls.specs.After.{asksJob};
+ghost use Rattle.wire.specs.Wire.{memoryOf, play};
+ghost use Rattle.wire_memap.specs.Words.{pull, push};
+ghost use Rattle.wire_memap.specs.Ops.{perform};
+ghost use Rattle.call.specs.Job.{exec};
+ghost use Rattle.engine_calls.specs.Calls.{callTree, rowFor};
+ghost use Rattle.engine_calls.specs.Laws.After.{asksJob};
 ghost use Rattle.engine_run.specs.Run.{within, Reports, RanAs};
-ghost use Rattle.engine_run.specs.Runs.{TransferRuns, OpRuns, AheadRuns};
-use calls::{Asks, EngineCall};
-use jobs::Next;
-use memap::{Op, OpNext};
-use numbers::CallEnding;
-use transport::{Answer, Call, Mode, Outcome, Remembered, Transfer};
+ghost use Rattle.engine_run.specs.Laws.Runs.{TransferRuns, OpRuns, AheadRuns};
+use call::Next;
+use engine_calls::Asks;
+use engine_calls::EngineCall;
+use wire::Answer;
+use wire::Call;
+use wire::Mode;
+use wire::Outcome;
+use wire::Remembered;
+use wire::Transfer;
+use wire_memap::Op;
+use wire_memap::OpNext;
+use wire_numbers::CallEnding;
 
 // What a run leaves: how many transport calls it made, how it ended, what is remembered.
 pub struct Ran {
@@ -58,27 +65,39 @@ fn limit_of(budget: u32, answers: &[u64]) -> u32
 }
 
 // A transfer in flight, until it is over.
-fn run_flight(start: Transfer, from: u32, limit: u32, answers: &[u64], log: &mut [u64]) -> TransferRan
+fn run_flight(
+    start: Transfer,
+    from: u32,
+    limit: u32,
+    answers: &[u64],
+    log: &mut [u64],
+) -> TransferRan
     requires { ⌜ limit ≤ length (now answers) ⌝ }
     ensures { λ x. ⌜ TransferRuns start limit (now (answers .entry)) from (now (log .entry)) x (now (log .exit)) ⌝ }
 {
     let mut t = start;
     let mut i = from;
     while i < limit {
-        numbers::note(log, i, transport::due(t));
+        wire_numbers::note(log, i, wire::due(t));
         let j = i as usize;
-        let a = numbers::answer_of(answers[j]);
+        let a = wire_numbers::answer_of(answers[j]);
         i += 1;
-        match transport::transfer_step(t, a) {
-            transport::Went::Again(t2) => {
+        match wire::transfer_step(t, a) {
+            wire::Went::Again(t2) => {
                 t = t2;
             }
-            transport::Went::Ended(o) => {
-                return TransferRan { count: i, end: RunEnd::Over(o) };
+            wire::Went::Ended(o) => {
+                return TransferRan {
+                    count: i,
+                    end: RunEnd::Over(o),
+                };
             }
         }
     }
-    TransferRan { count: i, end: RunEnd::Out }
+    TransferRan {
+        count: i,
+        end: RunEnd::Out,
+    }
 }
 
 // The same, where an Ok comes at once without the loop.
@@ -90,15 +109,21 @@ fn run_transfer(t: Transfer, i: u32, limit: u32, answers: &[u64], log: &mut [u64
         let j = i as usize;
         let mode = t.mode;
         let c = t.call;
-        match numbers::answer_of(answers[j]) {
+        match wire_numbers::answer_of(answers[j]) {
             Answer::Good(v) => match mode {
                 Mode::Trying => {
-                    numbers::note(log, i, c);
-                    return TransferRan { count: i + 1, end: RunEnd::Over(Outcome::Value(v)) };
+                    wire_numbers::note(log, i, c);
+                    return TransferRan {
+                        count: i + 1,
+                        end: RunEnd::Over(Outcome::Value(v)),
+                    };
                 }
                 Mode::Raw => {
-                    numbers::note(log, i, c);
-                    return TransferRan { count: i + 1, end: RunEnd::Over(Outcome::Value(v)) };
+                    wire_numbers::note(log, i, c);
+                    return TransferRan {
+                        count: i + 1,
+                        end: RunEnd::Over(Outcome::Value(v)),
+                    };
                 }
                 Mode::Aborting => {}
             },
@@ -111,7 +136,15 @@ fn run_transfer(t: Transfer, i: u32, limit: u32, answers: &[u64], log: &mut [u64
 }
 
 // A run of reads, as long as each is answered Ok at once.
-fn pull_ahead(last: u32, more: u32, from: u32, limit: u32, answers: &[u64], ws: &mut [u32], log: &mut [u64]) -> Ahead
+fn pull_ahead(
+    last: u32,
+    more: u32,
+    from: u32,
+    limit: u32,
+    answers: &[u64],
+    ws: &mut [u32],
+    log: &mut [u64],
+) -> Ahead
     requires { ⌜ limit ≤ length (now answers) ⌝ }
     ensures { λ x. ⌜ AheadRuns (pull last) more limit (now (answers .entry)) from (now (ws .entry)) (now (log .entry)) x (now (ws .exit)) (now (log .exit)) ⌝ }
 {
@@ -122,11 +155,18 @@ fn pull_ahead(last: u32, more: u32, from: u32, limit: u32, answers: &[u64], ws: 
             return Ahead { count: i, left: 0 };
         }
         let j = i as usize;
-        let Answer::Good(v) = numbers::answer_of(answers[j]) else {
+        let Answer::Good(v) = wire_numbers::answer_of(answers[j]) else {
             return Ahead { count: i, left: n };
         };
-        numbers::note(log, i, Call::Transfer { request: 15, word: 0 });
-        memap::place_word(ws, memap::minus(last, n), v);
+        wire_numbers::note(
+            log,
+            i,
+            Call::Transfer {
+                request: 15,
+                word: 0,
+            },
+        );
+        wire_memap::place_word(ws, wire_memap::minus(last, n), v);
         n -= 1;
         i += 1;
     }
@@ -134,7 +174,15 @@ fn pull_ahead(last: u32, more: u32, from: u32, limit: u32, answers: &[u64], ws: 
 }
 
 // A run of writes, as long as each is answered Ok at once.
-fn push_ahead(last: u32, more: u32, from: u32, limit: u32, answers: &[u64], ws: &[u32], log: &mut [u64]) -> Ahead
+fn push_ahead(
+    last: u32,
+    more: u32,
+    from: u32,
+    limit: u32,
+    answers: &[u64],
+    ws: &[u32],
+    log: &mut [u64],
+) -> Ahead
     requires { ⌜ limit ≤ length (now answers) ⌝ }
     ensures { λ x. ⌜ AheadRuns (push last) more limit (now (answers .entry)) from (now (ws .entry)) (now (log .entry)) x (now (ws .entry)) (now (log .exit)) ⌝ }
 {
@@ -145,11 +193,18 @@ fn push_ahead(last: u32, more: u32, from: u32, limit: u32, answers: &[u64], ws: 
             return Ahead { count: i, left: 0 };
         }
         let j = i as usize;
-        let Answer::Good(_) = numbers::answer_of(answers[j]) else {
+        let Answer::Good(_) = wire_numbers::answer_of(answers[j]) else {
             return Ahead { count: i, left: n };
         };
-        let v = memap::word_at(ws, memap::minus(last, n - 1));
-        numbers::note(log, i, Call::Transfer { request: 13, word: v });
+        let v = wire_memap::word_at(ws, wire_memap::minus(last, n - 1));
+        wire_numbers::note(
+            log,
+            i,
+            Call::Transfer {
+                request: 13,
+                word: v,
+            },
+        );
         n -= 1;
         i += 1;
     }
@@ -157,11 +212,19 @@ fn push_ahead(last: u32, more: u32, from: u32, limit: u32, answers: &[u64], ws: 
 }
 
 // An operation, until it is over.
-fn run_op(before: Remembered, w: Op, from: u32, limit: u32, answers: &[u64], ws: &mut [u32], log: &mut [u64]) -> OpRan
+fn run_op(
+    before: Remembered,
+    w: Op,
+    from: u32,
+    limit: u32,
+    answers: &[u64],
+    ws: &mut [u32],
+    log: &mut [u64],
+) -> OpRan
     requires { ⌜ limit ≤ length (now answers) ⌝ }
     ensures { λ x. ⌜ OpRuns (perform w) before limit (now (answers .entry)) from (now (ws .entry)) (now (log .entry)) x (now (ws .exit)) (now (log .exit)) ⌝ }
 {
-    let mut s = memap::op_start(before, w);
+    let mut s = wire_memap::op_start(before, w);
     let mut r = before;
     let mut i = from;
     loop {
@@ -171,24 +234,32 @@ fn run_op(before: Remembered, w: Op, from: u32, limit: u32, answers: &[u64], ws:
         i = x.count;
         let end = x.end;
         match end {
-            RunEnd::Out => return OpRan { count: i, remembered: r, end: RunEnd::Out },
-            RunEnd::Over(o) => match memap::op_ended(r, s, o, ws) {
+            RunEnd::Out => return OpRan {
+                count: i,
+                remembered: r,
+                end: RunEnd::Out,
+            },
+            RunEnd::Over(o) => match wire_memap::op_ended(r, s, o, ws) {
                 OpNext::Moving(r2, s2) => {
                     r = r2;
                     s = s2;
                 }
-                OpNext::Finished(r2, o2) => return OpRan { count: i, remembered: r2, end: RunEnd::Over(o2) },
+                OpNext::Finished(r2, o2) => return OpRan {
+                    count: i,
+                    remembered: r2,
+                    end: RunEnd::Over(o2),
+                },
                 OpNext::Pulling(r2, t, n) => {
                     let a = pull_ahead(t.last, n, i, limit, answers, ws, log);
                     r = r2;
                     i = a.count;
-                    s = memap::pull_on(t, a.left);
+                    s = wire_memap::pull_on(t, a.left);
                 }
                 OpNext::Pushing(r2, t, n) => {
                     let a = push_ahead(t.last, n, i, limit, answers, ws, log);
                     r = r2;
                     i = a.count;
-                    s = memap::push_on(t, a.left, ws);
+                    s = wire_memap::push_on(t, a.left, ws);
                 }
             },
         }
@@ -196,7 +267,15 @@ fn run_op(before: Remembered, w: Op, from: u32, limit: u32, answers: &[u64], ws:
 }
 
 // The run of a call, operation by operation.
-fn run_on(before: Remembered, start: Asks, budget: u32, answers: &[u64], ws: &mut [u32], buf: &mut [u8], log: &mut [u64]) -> Ran
+fn run_on(
+    before: Remembered,
+    start: Asks,
+    budget: u32,
+    answers: &[u64],
+    ws: &mut [u32],
+    buf: &mut [u8],
+    log: &mut [u64],
+) -> Ran
     ensures { λ r. ⌜ Reports (play (exec (asksJob start) (memoryOf before (now (ws .entry)) (now (buf .entry)))) (within budget (now (answers .entry)))) r (now (ws .exit)) (now (buf .exit)) (now (log .entry)) (now (log .exit)) ⌝ }
 {
     let limit = limit_of(budget, answers);
@@ -207,11 +286,15 @@ fn run_on(before: Remembered, start: Asks, budget: u32, answers: &[u64], ws: &mu
         let c = a.change;
         let p = a.at;
         let n = a.next;
-        let r2 = jobs::make_change(c, r, ws, buf);
+        let r2 = call::make_change(c, r, ws, buf);
         match n {
             Next::End(o) => {
-                let e = numbers::result_of(o);
-                return Ran { count: i, ending: e, remembered: r2 };
+                let e = wire_numbers::result_of(o);
+                return Ran {
+                    count: i,
+                    ending: e,
+                    remembered: r2,
+                };
             }
             Next::Do(w) => {
                 let x = run_op(r2, w, i, limit, answers, ws, log);
@@ -220,10 +303,17 @@ fn run_on(before: Remembered, start: Asks, budget: u32, answers: &[u64], ws: &mu
                 let end = x.end;
                 match end {
                     RunEnd::Out => {
-                        return Ran { count: i, ending: CallEnding { number: 11, value: 0 }, remembered: r };
+                        return Ran {
+                            count: i,
+                            ending: CallEnding {
+                                number: 11,
+                                value: 0,
+                            },
+                            remembered: r,
+                        };
                     }
                     RunEnd::Over(o) => {
-                        a = calls::call_after(p, o);
+                        a = engine_calls::call_after(p, o);
                     }
                 }
             }
@@ -234,19 +324,28 @@ fn run_on(before: Remembered, start: Asks, budget: u32, answers: &[u64], ws: &mu
 // A whole call over a budget. The answers are what is left of the budget: where there are fewer, the budget is as many as they are.
 // Call 24 finds its frame in `frame`; call 23 leaves its frame there if it succeeds. The log gets each transport call's number, as
 // far as it reaches.
-pub fn run(r: Remembered, c: EngineCall, budget: u32, answers: &[u64], frame: &mut [u32; 8], words: &mut [u32], buf: &mut [u8], log: &mut [u64]) -> Ran
+pub fn run(
+    r: Remembered,
+    c: EngineCall,
+    budget: u32,
+    answers: &[u64],
+    frame: &mut [u32; 8],
+    words: &mut [u32],
+    buf: &mut [u8],
+    log: &mut [u64],
+) -> Ran
     ensures { λ x. ⌜ RanAs c (play (callTree c r (rowFor c (now (frame .entry))) (now (words .entry)) (now (buf .entry))) (within budget (now (answers .entry)))) x (now (frame .entry)) (now (words .entry)) (now (frame .exit)) (now (words .exit)) (now (buf .exit)) (now (log .entry)) (now (log .exit)) ⌝ }
 {
     let n = words.len();
     let m = buf.len();
-    let a = calls::call_start(c, n, m);
-    if calls::owns(c) {
+    let a = engine_calls::call_start(c, n, m);
+    if engine_calls::owns(c) {
         return run_on(r, a, budget, answers, words, buf, log);
     }
-    let f = calls::frame_for(c);
+    let f = engine_calls::frame_for(c);
     let before = *frame;
-    let mut row = calls::row_for(f, before);
+    let mut row = engine_calls::row_for(f, before);
     let ran = run_on(r, a, budget, answers, &mut row, buf, log);
-    *frame = calls::frame_left(f, ran.ending.number == 0, row, before);
+    *frame = engine_calls::frame_left(f, ran.ending.number == 0, row, before);
     ran
 }

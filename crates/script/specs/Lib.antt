@@ -1,6 +1,3 @@
 pub mod Script
 pub mod Output
-pub mod Loads
-pub mod Lending
-pub mod Performing
-pub mod Sizes
+pub mod Laws

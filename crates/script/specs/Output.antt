@@ -4,23 +4,23 @@ use lib.Dec.{eqb}
 use mathlib.Core.Bool.{Bool, true, false, cond}
 use mathlib.Core.List.{List, _++_}
 use lib.ListN.{length}
-use Rattle.transport.specs.Wire.{Played, play}
-use Rattle.numbers.specs.Results.{endingOf}
-use Rattle.numbers.specs.declared.CallEnding.{CallEnding}
-use Rattle.jobs.specs.Change.{fresh}
-use Rattle.calls.specs.declared.EngineCall.{EngineCall}
-use Rattle.calls.specs.Calls.{pick, callTree, rowFor, frameOf, wordsLeft, frameLeft}
+use Rattle.wire.specs.Wire.{Played, play}
+use Rattle.wire_numbers.specs.Results.{endingOf}
+use Rattle.wire_numbers.specs.declared.CallEnding.{CallEnding}
+use Rattle.call.specs.Change.{fresh}
+use Rattle.engine_calls.specs.declared.EngineCall.{EngineCall}
+use Rattle.engine_calls.specs.Calls.{pick, callTree, rowFor, frameOf, wordsLeft, frameLeft}
 use Rattle.engine_run.specs.Run.{within}
-use Rattle.listing.specs.declared.Shown.{Shown}
-use Rattle.listing.specs.declared.Shown.the-variants as S
-use Rattle.listing.specs.Listing.{callLines, resultLine, shownText}
-use Rattle.request.specs.BigEndian.{byte}
-use Rattle.request.specs.Request.{requestOf, wordsOf, bytesOf}
+use Rattle.script_lines.specs.declared.Shown.{Shown}
+use Rattle.script_lines.specs.declared.Shown.the-variants as S
+use Rattle.script_lines.specs.Listing.{callLines, resultLine, shownText}
+use Rattle.script_request.specs.BigEndian.{byte}
+use Rattle.script_request.specs.Request.{requestOf, wordsOf, bytesOf}
 use Rattle.script.specs.Script.{wellFormed, arguments, answers}
-use Rattle.request.specs.declared.Buffer.{Buffer}
-use Rattle.request.specs.declared.Buffer.the-variants as B
-use Rattle.request.specs.declared.Request.{Request}
-use Rattle.request.specs.declared.Request.the-variants.{Malformed, Asked}
+use Rattle.script_request.specs.declared.Buffer.{Buffer}
+use Rattle.script_request.specs.declared.Buffer.the-variants as B
+use Rattle.script_request.specs.declared.Request.{Request}
+use Rattle.script_request.specs.declared.Request.the-variants.{Malformed, Asked}
 
 -- 01's Script is 13
 abbrev pub malformedText : List ℕ

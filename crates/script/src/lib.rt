@@ -4,23 +4,23 @@ ghost use mathlib.Core.Bool.{true};
 ghost use Prim.Native.Nat.{_+_, _-_, _*_, _^_, _≤_, _<_};
 ghost use lib.ListN.{length, drop};
 ghost use lib.Seq.{sets};
-ghost use Rattle.request.specs.BigEndian.{word as Number·word, row};
-ghost use Rattle.request.specs.Request.{wordsOf, bytesOf};
-ghost use Rattle.calls.specs.Calls.{pick, frameOf};
-ghost use Rattle.listing.specs.Listing.{runLines};
-ghost use Rattle.listing.specs.Puts.{Puts};
+ghost use Rattle.script_request.specs.BigEndian.{word as Number·word, row};
+ghost use Rattle.script_request.specs.Request.{wordsOf, bytesOf};
+ghost use Rattle.engine_calls.specs.Calls.{pick, frameOf};
+ghost use Rattle.script_lines.specs.Listing.{runLines};
+ghost use Rattle.script_lines.specs.Laws.Puts.{Puts};
 ghost use Rattle.script.specs.Script.{callEnd, answerCount, goodAnswer, goodAnswers, answerAt, wellFormed};
 ghost use Rattle.script.specs.Output.{malformedText, shownOf, isFrame, performed, requestText, scriptText, outputOf};
-ghost use Rattle.script.specs.Lending.{zeros, Zeros, wordCount, byteCount};
-ghost use Rattle.script.specs.Sizes.{Sizes};
-use calls::EngineCall;
-use listing::Shown;
-use numbers::CallEnding;
-use request::Buffer;
-use request::Request;
-use request::byte;
-use request::half;
-use request::word;
+ghost use Rattle.script.specs.Laws.Lending.{zeros, Zeros, wordCount, byteCount};
+ghost use Rattle.script.specs.Laws.Sizes.{Sizes};
+use engine_calls::EngineCall;
+use script_lines::Shown;
+use script_request::Buffer;
+use script_request::Request;
+use script_request::byte;
+use script_request::half;
+use script_request::word;
+use wire_numbers::CallEnding;
 
 fn good_answer(input: &[u8], i: usize) -> bool
     requires { ⌜ i < 2 ^ 62 ⌝ }
@@ -185,14 +185,14 @@ fn shown_of(e: CallEnding, b: Buffer) -> Shown
 fn frame_in(words: &[u32]) -> [u32; 8]
     ensures { λ r. ⌜ r ≡ frameOf (now (words .entry)) ⌝ }
 {
-    let r0 = memap::word_at(words, 0);
-    let r1 = memap::word_at(words, 1);
-    let r2 = memap::word_at(words, 2);
-    let r3 = memap::word_at(words, 3);
-    let sp = memap::word_at(words, 4);
-    let lr = memap::word_at(words, 5);
-    let pc = memap::word_at(words, 6);
-    let xpsr = memap::word_at(words, 7);
+    let r0 = wire_memap::word_at(words, 0);
+    let r1 = wire_memap::word_at(words, 1);
+    let r2 = wire_memap::word_at(words, 2);
+    let r3 = wire_memap::word_at(words, 3);
+    let sp = wire_memap::word_at(words, 4);
+    let lr = wire_memap::word_at(words, 5);
+    let pc = wire_memap::word_at(words, 6);
+    let xpsr = wire_memap::word_at(words, 7);
     [r0, r1, r2, r3, sp, lr, pc, xpsr]
 }
 
@@ -210,15 +210,23 @@ fn is_frame(b: Buffer) -> bool
 }
 
 // The listing of a run, with the frame or the words that it left.
-fn put_performed(out: &mut [u8], log: &[u64], e: CallEnding, b: Buffer, frame: &[u32; 8], words: &[u32], buf: &[u8]) -> usize
+fn put_performed(
+    out: &mut [u8],
+    log: &[u64],
+    e: CallEnding,
+    b: Buffer,
+    frame: &[u32; 8],
+    words: &[u32],
+    buf: &[u8],
+) -> usize
     requires { ⌜ (length (now log) ≤ 9361) × (length (now frame) ≡ 8) × (length (now words) < 65536) × (length (now buf) < 65536) ⌝ }
     ensures { λ r. ⌜ Puts (now (out .entry)) 0 (runLines (now (log .entry)) e (shownOf e b) (pick (isFrame b) (now (frame .entry)) (now (words .entry))) (now (buf .entry))) (now (out .exit)) r × (r ≤ 1114112) ⌝ }
 {
     let s = shown_of(e, b);
     if is_frame(b) {
-        return listing::put_run(out, log, e, s, frame, buf);
+        return script_lines::put_run(out, log, e, s, frame, buf);
     }
-    listing::put_run(out, log, e, s, words, buf)
+    script_lines::put_run(out, log, e, s, words, buf)
 }
 
 // A call on a new engine, and its listing. No script has more than 9,361 answers.
@@ -235,7 +243,16 @@ fn perform(
 {
     let mut log = zero_answers();
     let mut frame = frame_in(words);
-    let ran = engine_run::run(jobs::new(), c, answers.len() as u32, answers, &mut frame, words, buf, &mut log);
+    let ran = engine_run::run(
+        call::new(),
+        c,
+        answers.len() as u32,
+        answers,
+        &mut frame,
+        words,
+        buf,
+        &mut log,
+    );
     let n = ran.count as usize;
     let e = ran.ending;
     put_performed(out, &log[..n], e, b, &frame, words, buf)
@@ -244,7 +261,7 @@ fn perform(
 fn put_malformed(out: &mut [u8]) -> usize
     ensures { λ r. ⌜ Puts (now (out .entry)) 0 malformedText (now (out .exit)) r × (r ≤ 20) ⌝ }
 {
-    listing::put_ending(
+    script_lines::put_ending(
         out,
         CallEnding {
             number: 13,
@@ -353,7 +370,7 @@ fn put_script(input: &[u8], out: &mut [u8]) -> usize
     ensures { λ r. ⌜ Puts (now (out .entry)) 0 (scriptText (now (input .entry))) (now (out .exit)) r × (r ≤ 1114112) ⌝ }
 {
     let end = 3 + (half(input, 1) as usize);
-    let request = request::request_of(byte(input, 3), &input[4..end]);
+    let request = script_request::request_of(byte(input, 3), &input[4..end]);
     match request {
         Request::Malformed => put_malformed(out),
         Request::Asked(c, b) => answered(c, b, input, end, out),

@@ -1,3 +1,2 @@
-pub mod Ends
-pub mod Starts
 pub mod Step
+pub mod Laws

@@ -4,15 +4,15 @@ use mathlib.Core.Bool.{Bool, false, _||_}
 use mathlib.Core.List.{List, []}
 use mathlib.Core.Path.{_≡_}
 use lib.ListN.{length}
-use Rattle.transport.specs.Bytes.{padded}
-use Rattle.transport.specs.Wire.{Wire, Memory, memoryOf, done, ask, tell, follow, ended, succeeds}
-use Rattle.transport.specs.declared.Answer.{Answer}
-use Rattle.transport.specs.declared.ArmError.{ArmError}
-use Rattle.transport.specs.declared.ArmError.the-variants as E
-use Rattle.transport.specs.declared.Outcome.the-variants.{Failed}
-use Rattle.numbers.specs.Results.{resultOf}
-use Rattle.calls.specs.Calls.{leave}
-use Rattle.engine.specs.State.{stateTree}
+use Rattle.wire.specs.Bytes.{padded}
+use Rattle.wire.specs.Wire.{Wire, Memory, memoryOf, done, ask, tell, follow, ended, succeeds}
+use Rattle.wire.specs.declared.Answer.{Answer}
+use Rattle.wire.specs.declared.ArmError.{ArmError}
+use Rattle.wire.specs.declared.ArmError.the-variants as E
+use Rattle.wire.specs.declared.Outcome.the-variants.{Failed}
+use Rattle.wire_numbers.specs.Results.{resultOf}
+use Rattle.engine_calls.specs.Calls.{leave}
+use Rattle.engine.specs.Laws.State.{stateTree}
 use Rattle.engine.specs.Step.{nextOf, bytesOf, memoryIn, CountedIn}
 use Rattle.engine.specs.declared.NextStep.{NextStep}
 use Rattle.engine.specs.declared.NextStep.the-variants as N

@@ -4,21 +4,30 @@ ghost use mathlib.Core.List.{List};
 ghost use mathlib.Core.Path.{_≡_};
 ghost use Prim.Native.Nat.{ℕ};
 ghost use lib.ListN.{replicate};
-ghost use Rattle.transport.specs.Wire.{Wire, follow};
-ghost use Rattle.calls.specs.Calls.{leave, rowFor};
-ghost use Rattle.engine.specs.State.{stateTree};
+ghost use Rattle.wire.specs.Wire.{Wire, follow};
+ghost use Rattle.engine_calls.specs.Calls.{leave, rowFor};
+ghost use Rattle.engine.specs.Laws.State.{stateTree};
 ghost use Rattle.engine.specs.Step.{Steps};
 ghost use Rattle.session_rules.specs.Session.{closed, kindOf, frameBy, sessionTree};
 ghost use Rattle.session_phase.specs.declared.Phase.the-variants.{Closed};
 ghost use Rattle.session.specs.Step.{standing, lostBy, Answers, Refused, Started, Stepped};
-ghost use Rattle.session.specs.Ends.{phaseFor, frameAt};
-use calls::{At, EngineCall, Frame};
-use connect::ConnectAt;
-use engine::{NextStep, State, Status, StepAnswer};
-use memap::Op;
-use session_phase::{Kind, Phase};
-use session_rules::{Check, SessionCall};
-use transport::{Answer, ArmError, Outcome};
+ghost use Rattle.session.specs.Laws.Ends.{phaseFor, frameAt};
+use call_connect::ConnectAt;
+use engine::NextStep;
+use engine::State;
+use engine::Status;
+use engine::StepAnswer;
+use engine_calls::At;
+use engine_calls::EngineCall;
+use engine_calls::Frame;
+use session_phase::Kind;
+use session_phase::Phase;
+use session_rules::Check;
+use session_rules::SessionCall;
+use wire::Answer;
+use wire::ArmError;
+use wire::Outcome;
+use wire_memap::Op;
 
 // `state` has what is remembered and the call in flight, `row` the words of its runs, `frame` what call 23 left and 24 takes.
 pub struct Session {
@@ -44,8 +53,8 @@ pub struct SessionAnswer {
 fn row_of(c: EngineCall, frame: [u32; 8]) -> [u32; 64]
     ensures { λ r. ⌜ r ≡ rowFor c frame ⌝ }
 {
-    let f = calls::frame_for(c);
-    calls::row_for(f, frame)
+    let f = engine_calls::frame_for(c);
+    engine_calls::row_for(f, frame)
 }
 
 // Whether a transport call was lost by now: `lost` tells of those before, the answer of the one that is due.
@@ -67,7 +76,7 @@ fn frame_ended(kind: Kind, ok: bool, row: [u32; 64], frame: [u32; 8]) -> [u32; 8
 {
     match kind {
         Kind::Connect => frame,
-        Kind::Frame => calls::frame_left(Frame::Left, ok, row, frame),
+        Kind::Frame => engine_calls::frame_left(Frame::Left, ok, row, frame),
         Kind::Plain => frame,
     }
 }
@@ -77,7 +86,10 @@ fn phase_at(kind: Kind, lost: bool, next: NextStep) -> Phase
     ensures { λ r. ⌜ r ≡ phaseFor kind lost next ⌝ }
 {
     match next {
-        NextStep::Make(_) => Phase::Running { kind: kind, lost: lost },
+        NextStep::Make(_) => Phase::Running {
+            kind: kind,
+            lost: lost,
+        },
         NextStep::Finish(e) => session_phase::phase_ended(kind, lost, e.number == 0),
     }
 }
@@ -102,8 +114,16 @@ fn settled(kind: Kind, lost: bool, frame: [u32; 8], row: [u32; 64], x: StepAnswe
     let phase = phase_at(kind, lost, next);
     let left = frame_at(kind, next, row, frame);
     SessionAnswer {
-        session: Session { phase: phase, state: state, row: row, frame: left },
-        reply: Reply { next: next, bytes: bytes },
+        session: Session {
+            phase: phase,
+            state: state,
+            row: row,
+            frame: left,
+        },
+        reply: Reply {
+            next: next,
+            bytes: bytes,
+        },
     }
 }
 
@@ -111,8 +131,14 @@ fn settled(kind: Kind, lost: bool, frame: [u32; 8], row: [u32; 64], x: StepAnswe
 fn refused(s: Session, e: ArmError) -> SessionAnswer
     ensures { λ r. ⌜ ((b : List ℕ) → Refused e s (r .session) (r .reply) b b) ⌝ }
 {
-    let x = numbers::result_of(Outcome::Failed(e));
-    SessionAnswer { session: s, reply: Reply { next: NextStep::Finish(x), bytes: [0u8; 16] } }
+    let x = wire_numbers::result_of(Outcome::Failed(e));
+    SessionAnswer {
+        session: s,
+        reply: Reply {
+            next: NextStep::Finish(x),
+            bytes: [0u8; 16],
+        },
+    }
 }
 
 // The start of a call that is not refused. It runs over no words of the caller.
@@ -137,7 +163,13 @@ fn over_row(s: State) -> State
     let at = s.at;
     let started = s.started;
     let r = s.remembered;
-    State { remembered: r, status: status, at: at, started: started, own: false }
+    State {
+        remembered: r,
+        status: status,
+        at: at,
+        started: started,
+        own: false,
+    }
 }
 
 // The engine's step over the row; no words of the caller are lent.
@@ -165,9 +197,20 @@ pub fn fresh() -> Session
     ensures { λ r. ⌜ (standing r ≡ closed) × (r .phase ≡ Closed) × (r .row ≡ replicate 64 0) ⌝ }
 {
     let r = engine::new();
-    let started = memap::op_start(r, Op::DpRead { addr: 0 });
-    let state = State { remembered: r, status: Status::Ended(Outcome::Value(0)), at: At::Connect(ConnectAt::Pulse), started: started, own: false };
-    Session { phase: Phase::Closed, state: state, row: [0u32; 64], frame: [0u32; 8] }
+    let started = wire_memap::op_start(r, Op::DpRead { addr: 0 });
+    let state = State {
+        remembered: r,
+        status: Status::Ended(Outcome::Value(0)),
+        at: At::Connect(ConnectAt::Pulse),
+        started: started,
+        own: false,
+    };
+    Session {
+        phase: Phase::Closed,
+        state: state,
+        row: [0u32; 64],
+        frame: [0u32; 8],
+    }
 }
 
 // Whether a session is open.

@@ -5,9 +5,9 @@ use mathlib.Core.Bool.{Bool, true, false}
 use mathlib.Core.List.{List}
 use lib.Dec.{eqb, leb}
 use lib.ListN.{getD}
-use Rattle.core.specs.declared.Function.{Function}
-use Rattle.core.specs.declared.CoreCall.the-variants as K
-use Rattle.fpb.specs.declared.FpbCall.the-variants as P
+use Rattle.call_core.specs.declared.Function.{Function}
+use Rattle.call_core.specs.declared.CoreCall.the-variants as K
+use Rattle.call_fpb.specs.declared.FpbCall.the-variants as P
 use Rattle.session_rules.specs.declared.SessionCall.the-variants as S
 use Rattle.session_items.specs.declared.Listed.{Listed}
 use Rattle.session_items.specs.declared.Listed.the-variants.{Call, Nothing}
@@ -21,7 +21,14 @@ arg ws at k = getD ws (at + (3 + k)) 0
 
 abbrev pub functionAt : List ℕ → ℕ → Function
 functionAt ws at = record {
-  «fn_addr» = arg ws at 0; a0 = arg ws at 1; a1 = arg ws at 2; a2 = arg ws at 3; a3 = arg ws at 4; sp = arg ws at 5; trampoline = arg ws at 6 }
+  «fn_addr» = arg ws at 0;
+  a0 = arg ws at 1;
+  a1 = arg ws at 2;
+  a2 = arg ws at 3;
+  a3 = arg ws at 4;
+  sp = arg ws at 5;
+  trampoline = arg ws at 6;
+}
 
 abbrev pub orElse : Bool → Listed → Listed → Listed
 orElse true a b = a

@@ -3,8 +3,9 @@ ghost use mathlib.Core.Path.{_≡_};
 ghost use Prim.Native.Nat.{_%_, _≤_};
 ghost use lib.ListN.{length, getD};
 ghost use Rattle.session_items.specs.Records.{arg, functionAt, memoryAt, coreAt, fpbAt, byNumber, callAt};
-use core::{CoreCall, Function};
-use fpb::FpbCall;
+use call_core::CoreCall;
+use call_core::Function;
+use call_fpb::FpbCall;
 use session_rules::SessionCall;
 
 // The call of a record, or that its number is none of a session's.
@@ -73,11 +74,20 @@ fn core_at(n: u32, ws: &[u32], at: usize) -> Listed
         18 => Listed::Call(SessionCall::Core(CoreCall::Step)),
         19 => Listed::Call(SessionCall::Core(CoreCall::IsHalted)),
         20 => Listed::Call(SessionCall::Core(CoreCall::ReadCoreReg(byte_of(arg_at(ws, at, 0))))),
-        21 => Listed::Call(SessionCall::Core(CoreCall::WriteCoreReg(byte_of(arg_at(ws, at, 0)), arg_at(ws, at, 1)))),
-        22 => Listed::Call(SessionCall::Core(CoreCall::RomFuncLookup(byte_of(arg_at(ws, at, 0)), byte_of(arg_at(ws, at, 1))))),
+        21 => Listed::Call(SessionCall::Core(CoreCall::WriteCoreReg(
+            byte_of(arg_at(ws, at, 0)),
+            arg_at(ws, at, 1),
+        ))),
+        22 => Listed::Call(SessionCall::Core(CoreCall::RomFuncLookup(
+            byte_of(arg_at(ws, at, 0)),
+            byte_of(arg_at(ws, at, 1)),
+        ))),
         23 => Listed::Call(SessionCall::Core(CoreCall::StartFunction(function_at(ws, at)))),
         24 => Listed::Call(SessionCall::Core(CoreCall::FinishFunction(arg_at(ws, at, 0)))),
-        25 => Listed::Call(SessionCall::Core(CoreCall::CallFunction(function_at(ws, at), arg_at(ws, at, 7)))),
+        25 => Listed::Call(SessionCall::Core(CoreCall::CallFunction(
+            function_at(ws, at),
+            arg_at(ws, at, 7),
+        ))),
         _ => Listed::Nothing,
     }
 }

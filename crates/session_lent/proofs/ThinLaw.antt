@@ -52,8 +52,16 @@ pub record Ruled (t : Data) : Type 2 where
 
 -- structs and enums are such types, by the laws generated for them
 abbrev pub struct-data : (T : SD.Declared) → LL.Laws T → Data
-struct-data T L = record { D = T .D; mir = lone (SD.row T .mir); written = SD.row T .written; reaches = SD.row T .reaches; own = SD.row T .own; coded
-    = SD.row T .coded; val = LL.val T L }
+struct-data T L = record {
+  D = T .D;
+  mir = lone (SD.row T .mir);
+  written = SD.row T .written;
+  reaches = SD.row T .reaches;
+  own = SD.row T .own;
+  coded
+      = SD.row T .coded;
+  val = LL.val T L;
+}
 
 pub struct-ruled : (T : SD.Declared) (L : LL.Laws T) → Plains (SD.fields T) → Ruled (struct-data T L)
 struct-ruled T L pl = record {
@@ -63,8 +71,16 @@ struct-ruled T L pl = record {
 }
 
 abbrev pub enum-data : (T : ED.Declared) → EL.Laws T → Data
-enum-data T L = record { D = T .D; mir = lone (ED.row T .mir); written = ED.row T .written; reaches = ED.row T .reaches; own = ED.row T .own; coded =
-    ED.row T .coded; val = EL.val T L }
+enum-data T L = record {
+  D = T .D;
+  mir = lone (ED.row T .mir);
+  written = ED.row T .written;
+  reaches = ED.row T .reaches;
+  own = ED.row T .own;
+  coded =
+      ED.row T .coded;
+  val = EL.val T L;
+}
 
 pub enum-ruled : (T : ED.Declared) (L : EL.Laws T) → Plainss (ED.variants T) → Few (ED.shape T) → Ruled (enum-data T L)
 enum-ruled T L pl few = record {

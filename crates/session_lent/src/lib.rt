@@ -1,9 +1,10 @@
 // The session's calls for a caller who keeps the session and lends it by `&mut`.
 ghost use mathlib.Core.Path.{_≡_};
 ghost use Rattle.session.specs.Step.{standing, Started, Stepped};
-use session::{Reply, Session};
+use session::Reply;
+use session::Session;
 use session_rules::SessionCall;
-use transport::Answer;
+use wire::Answer;
 
 // Start and step for a caller who keeps the session: it is taken out whole, stepped by value, and stored back.
 pub fn start(s: &mut Session, c: SessionCall, buf: &mut [u8]) -> Reply

@@ -1,2 +1,2 @@
 pub mod Phase
-pub mod PhaseLaws
+pub mod Laws

@@ -2,14 +2,14 @@
 -- FAULT, the ignored ABORT aside; after Spent; and after a connect that failed. Nothing else closes it.
 use mathlib.Core.Bool.{Bool, true, false, not, _&&_, _||_}
 use lib.Dec.{eqb}
-use Rattle.transport.specs.Wire.{Ending, ended, spent, succeeds}
-use Rattle.transport.specs.declared.Answer.{Answer}
-use Rattle.transport.specs.declared.Answer.the-variants.{Good, SwdError, NotSupported, Other}
-use Rattle.transport.specs.declared.Outcome.{Outcome}
-use Rattle.transport.specs.declared.Mode.{Mode}
-use Rattle.transport.specs.declared.Mode.the-variants as D
-use Rattle.transport.specs.declared.Remembered.{Remembered}
-use Rattle.jobs.specs.Change.{forgotten}
+use Rattle.wire.specs.Wire.{Ending, ended, spent, succeeds}
+use Rattle.wire.specs.declared.Answer.{Answer}
+use Rattle.wire.specs.declared.Answer.the-variants.{Good, SwdError, NotSupported, Other}
+use Rattle.wire.specs.declared.Outcome.{Outcome}
+use Rattle.wire.specs.declared.Mode.{Mode}
+use Rattle.wire.specs.declared.Mode.the-variants as D
+use Rattle.wire.specs.declared.Remembered.{Remembered}
+use Rattle.call.specs.Change.{forgotten}
 use Rattle.session_phase.specs.declared.Kind.{Kind}
 use Rattle.session_phase.specs.declared.Kind.the-variants as K
 use Rattle.session_phase.specs.declared.Phase.{Phase}

@@ -2,7 +2,9 @@
 ghost use mathlib.Core.Bool.{_||_};
 ghost use mathlib.Core.Path.{_≡_};
 ghost use Rattle.session_phase.specs.Phase.{loss, lossIn, rememberedFor, isOpen, phaseEnded};
-use transport::{Answer, Mode, Remembered};
+use wire::Answer;
+use wire::Mode;
+use wire::Remembered;
 
 // What the running call's end needs to know of it: a connect decides alone whether the session is open; call 23 leaves a frame.
 pub enum Kind {
@@ -35,7 +37,11 @@ pub fn remembered_for(connect: bool, r: Remembered) -> Remembered
     ensures { λ x. ⌜ x ≡ rememberedFor connect r ⌝ }
 {
     if connect {
-        return Remembered { select: 0xFFFFFFFF, csw: false, apsel: r.apsel };
+        return Remembered {
+            select: 0xFFFFFFFF,
+            csw: false,
+            apsel: r.apsel,
+        };
     }
     r
 }

@@ -3,14 +3,14 @@
 use Prim.Native.Nat.{ℕ, _+_, _%_}
 use mathlib.Core.Bool.{Bool, true, false, not}
 use lib.Dec.{eqb, leb}
-use Rattle.transport.specs.declared.ArmError.{ArmError}
-use Rattle.transport.specs.declared.ArmError.the-variants as E
-use Rattle.connect.specs.declared.ConnectCall.the-variants as N
-use Rattle.memory.specs.declared.MemoryCall.the-variants as M
-use Rattle.fpb.specs.declared.FpbCall.{FpbCall}
-use Rattle.fpb.specs.declared.FpbCall.the-variants as B
-use Rattle.calls.specs.declared.EngineCall.{EngineCall}
-use Rattle.calls.specs.declared.EngineCall.the-variants as C
+use Rattle.wire.specs.declared.ArmError.{ArmError}
+use Rattle.wire.specs.declared.ArmError.the-variants as E
+use Rattle.call_connect.specs.declared.ConnectCall.the-variants as N
+use Rattle.call_memory.specs.declared.MemoryCall.the-variants as M
+use Rattle.call_fpb.specs.declared.FpbCall.{FpbCall}
+use Rattle.call_fpb.specs.declared.FpbCall.the-variants as B
+use Rattle.engine_calls.specs.declared.EngineCall.{EngineCall}
+use Rattle.engine_calls.specs.declared.EngineCall.the-variants as C
 use Rattle.session_rules.specs.declared.SessionCall.{SessionCall}
 use Rattle.session_rules.specs.declared.SessionCall.the-variants as S
 use Rattle.session_rules.specs.declared.Check.{Check}

@@ -1,3 +1,3 @@
 pub mod Admits
 pub mod Session
-pub mod Expected
+pub mod Laws

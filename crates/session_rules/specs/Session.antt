@@ -3,16 +3,16 @@ use Prim.Native.Nat.{ℕ}
 use mathlib.Core.Bool.{Bool, false, _||_}
 use mathlib.Core.List.{List, [], _∷_}
 use lib.ListN.{length, replicate}
-use Rattle.transport.specs.Wire.{Wire, Memory, done, ask, tell, play, Played, Ending, ended}
-use Rattle.transport.specs.declared.Call.{Call}
-use Rattle.transport.specs.declared.Answer.{Answer}
-use Rattle.transport.specs.declared.Outcome.{Outcome}
-use Rattle.transport.specs.declared.Outcome.the-variants.{Failed}
-use Rattle.transport.specs.declared.Remembered.{Remembered}
-use Rattle.jobs.specs.Change.{fresh}
-use Rattle.calls.specs.Calls.{callTree, rowFor, coreFrame, frameLeft}
-use Rattle.calls.specs.declared.Frame.{Frame}
-use Rattle.calls.specs.declared.Frame.the-variants as F
+use Rattle.wire.specs.Wire.{Wire, Memory, done, ask, tell, play, Played, Ending, ended}
+use Rattle.wire.specs.declared.Call.{Call}
+use Rattle.wire.specs.declared.Answer.{Answer}
+use Rattle.wire.specs.declared.Outcome.{Outcome}
+use Rattle.wire.specs.declared.Outcome.the-variants.{Failed}
+use Rattle.wire.specs.declared.Remembered.{Remembered}
+use Rattle.call.specs.Change.{fresh}
+use Rattle.engine_calls.specs.Calls.{callTree, rowFor, coreFrame, frameLeft}
+use Rattle.engine_calls.specs.declared.Frame.{Frame}
+use Rattle.engine_calls.specs.declared.Frame.the-variants as F
 use Rattle.session_phase.specs.Phase.{loss, rememberedFor, opensAfter}
 use Rattle.session_phase.specs.declared.Kind.{Kind}
 use Rattle.session_phase.specs.declared.Kind.the-variants as K
@@ -79,7 +79,9 @@ settled s c lost p = record {
   after = record {
     isOpen = opensAfter (isConnect c) lost (p .ending);
     remembered = p .memory .remembered;
-    frame = frameLeft (engineCall c) (p .ending) (p .memory .words) (s .frame) } }
+    frame = frameLeft (engineCall c) (p .ending) (p .memory .words) (s .frame);
+  };
+}
 
 abbrev pub unchanged : Standing → Outcome → List ℕ → Called
 unchanged s o buf = record { calls = []; ending = ended o; buf = buf; after = s }

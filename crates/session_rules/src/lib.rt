@@ -4,15 +4,16 @@ ghost use mathlib.Core.Path.{_≡_};
 ghost use Prim.Native.Nat.{_+_};
 ghost use lib.Dec.{leb};
 ghost use Rattle.session_rules.specs.Admits.{engineCall, isConnect, breakpoint, aligned, ranged, admitted, refusal};
-ghost use Rattle.calls.specs.Calls.{coreFrame};
+ghost use Rattle.engine_calls.specs.Calls.{coreFrame};
 ghost use Rattle.session_rules.specs.Session.{kindBy, kindOf};
-use calls::{EngineCall, Frame};
-use connect::ConnectCall;
-use core::CoreCall;
-use fpb::FpbCall;
-use memory::MemoryCall;
+use call_connect::ConnectCall;
+use call_core::CoreCall;
+use call_fpb::FpbCall;
+use call_memory::MemoryCall;
+use engine_calls::EngineCall;
+use engine_calls::Frame;
 use session_phase::Kind;
-use transport::ArmError;
+use wire::ArmError;
 
 // Calls 3, 9, 10, 13, 14, 15 to 25 and 26 to 28.
 pub enum SessionCall {
@@ -148,7 +149,7 @@ pub fn check_call(now_open: bool, c: SessionCall, bytes: usize) -> Check
 fn core_kind(c: CoreCall) -> Kind
     ensures { λ r. ⌜ r ≡ kindBy (coreFrame c) ⌝ }
 {
-    match calls::frame_for(EngineCall::Core(c)) {
+    match engine_calls::frame_for(EngineCall::Core(c)) {
         Frame::Nowhere => Kind::Plain,
         Frame::Found => Kind::Plain,
         Frame::Left => Kind::Frame,

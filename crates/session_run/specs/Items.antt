@@ -5,8 +5,8 @@ use mathlib.Core.List.{List, [], _∷_, _++_, map}
 use mathlib.Core.Path.{_≡_}
 use lib.ListN.{length, take, drop}
 use lib.Seq.{sets}
-use Rattle.numbers.specs.Results.{endingOf}
-use Rattle.numbers.specs.declared.CallEnding.{CallEnding}
+use Rattle.wire_numbers.specs.Results.{endingOf}
+use Rattle.wire_numbers.specs.declared.CallEnding.{CallEnding}
 use Rattle.target.specs.declared.Act.{Act}
 use Rattle.target.specs.Line.{actOf}
 use Rattle.session.specs.Step.{standing}

@@ -1,9 +1,3 @@
-pub mod Walk
 pub mod Ran
-pub mod RanLaws
-pub mod Under
 pub mod Items
-pub mod Turn
-pub mod ListLaws
-pub mod Listing
-pub mod InStep
+pub mod Laws

@@ -3,7 +3,7 @@ use mathlib.Core.List.{List}
 use mathlib.Core.Path.{_≡_}
 use Prim.Native.Nat.{ℕ}
 use lib.ListN.{length}
-use Rattle.numbers.specs.Results.{endingOf}
+use Rattle.wire_numbers.specs.Results.{endingOf}
 use Rattle.session.specs.Step.{standing}
 use Rattle.session.specs.declared.Session.{Session}
 use Rattle.session_rules.specs.declared.SessionCall.{SessionCall}

@@ -6,16 +6,18 @@ ghost use Rattle.target_run.specs.Talk.{actNow, actsThen};
 ghost use Rattle.agreement.specs.Demand3.{made, history};
 ghost use Rattle.session_run.specs.Ran.{moment, item, CallRuns};
 ghost use Rattle.session_run.specs.Items.{codeOf, actsOf, itemsOf, ListRuns};
-ghost use Rattle.session_run.specs.Under.{dueNow};
-ghost use Rattle.session_run.specs.Turn.{Turns, callRan};
-ghost use Rattle.session_run.specs.Listing.{listRan};
+ghost use Rattle.session_run.specs.Laws.Under.{dueNow};
+ghost use Rattle.session_run.specs.Laws.Turn.{Turns, callRan};
+ghost use Rattle.session_run.specs.Laws.Listing.{listRan};
 use engine::NextStep;
-use numbers::CallEnding;
-use session::{Session, SessionAnswer};
+use session::Session;
+use session::SessionAnswer;
 use session_items::Listed;
 use session_rules::SessionCall;
-use target::{Act, Target};
-use transport::Call;
+use target::Act;
+use target::Target;
+use wire::Call;
+use wire_numbers::CallEnding;
 
 // What one call leaves; `at` is where the line's acts go on.
 pub struct CallRan {
@@ -79,7 +81,7 @@ fn next_at(acts: &[u32], at: usize) -> usize
 fn due(s: Session) -> Call
     ensures { λ r. ⌜ r ≡ dueNow s ⌝ }
 {
-    transport::due(s.state.started.launched.transfer)
+    wire::due(s.state.started.launched.transfer)
 }
 
 // The transport call that is due goes over the line, and the session makes a step of its answer.
@@ -89,7 +91,10 @@ fn turn(s: Session, act: Act, t: Target, mem: &mut [u8], buf: &mut [u8]) -> Turn
     let d = target_line::over_line(t, due(s), act, mem);
     let a = d.answer;
     let left = d.target;
-    Turned { step: session::session_step(s, a, buf), target: left }
+    Turned {
+        step: session::session_step(s, a, buf),
+        target: left,
+    }
 }
 
 // What a call leaves after its last turn.
@@ -98,14 +103,32 @@ fn call_ran(last: Turned, count: u32, ending: CallEnding, at: usize) -> CallRan
 {
     let session = last.step.session;
     let target = last.target;
-    CallRan { session: session, target: target, count: count, ending: ending, at: at }
+    CallRan {
+        session: session,
+        target: target,
+        count: count,
+        ending: ending,
+        at: at,
+    }
 }
 
 // One call over target and line under a budget. The line does as `acts` says from place `from` on, and delivers where they end.
-pub fn run_call(s: Session, c: SessionCall, budget: u32, t: Target, acts: &[u32], from: usize, mem: &mut [u8], buf: &mut [u8]) -> CallRan
+pub fn run_call(
+    s: Session,
+    c: SessionCall,
+    budget: u32,
+    t: Target,
+    acts: &[u32],
+    from: usize,
+    mem: &mut [u8],
+    buf: &mut [u8],
+) -> CallRan
     ensures { λ r. ⌜ CallRuns (made (moment s t (now (mem .entry))) (item c budget (now (buf .entry))) (actsOf (drop from (now (acts .entry))))) r (now (mem .exit)) (now (buf .exit)) × (actsOf (drop (r .at) (now (acts .entry))) ≡ drop (length (made (moment s t (now (mem .entry))) (item c budget (now (buf .entry))) (actsOf (drop from (now (acts .entry)))) .answers)) (actsOf (drop from (now (acts .entry))))) ⌝ }
 {
-    let mut last = Turned { step: session::session_start(s, c, buf), target: t };
+    let mut last = Turned {
+        step: session::session_start(s, c, buf),
+        target: t,
+    };
     let mut at = from;
     let mut i: u32 = 0;
     loop {
@@ -117,7 +140,10 @@ pub fn run_call(s: Session, c: SessionCall, budget: u32, t: Target, acts: &[u32]
             }
             NextStep::Make(_) => {
                 if budget <= i {
-                    let spent = CallEnding { number: 11, value: 0 };
+                    let spent = CallEnding {
+                        number: 11,
+                        value: 0,
+                    };
                     return call_ran(last, i, spent, at);
                 }
                 last = turn(last.step.session, act_at(acts, at), last.target, mem, buf);
@@ -134,7 +160,11 @@ fn list_ran(last: CallRan, calls: usize) -> ListRan
 {
     let session = last.session;
     let target = last.target;
-    ListRan { session: session, target: target, calls: calls }
+    ListRan {
+        session: session,
+        target: target,
+        calls: calls,
+    }
 }
 
 // The words of a record.
@@ -142,11 +172,28 @@ const ITEM: usize = 11;
 
 // A list of calls over target and line: each finds session, target and line as the last one left them. The buffers lie one after
 // the other in `bytes`; `results` gets each call's result, as far as it reaches.
-pub fn run_list(s: Session, items: &[u32], acts: &[u32], t: Target, mem: &mut [u8], bytes: &mut [u8], results: &mut [u64]) -> ListRan
+pub fn run_list(
+    s: Session,
+    items: &[u32],
+    acts: &[u32],
+    t: Target,
+    mem: &mut [u8],
+    bytes: &mut [u8],
+    results: &mut [u64],
+) -> ListRan
     ensures { λ r. ⌜ ListRuns (moment s t (now (mem .entry))) (history (moment s t (now (mem .entry))) (itemsOf (now (items .entry)) (now (bytes .entry))) (actsOf (now (acts .entry)))) r (now (mem .exit)) (now (bytes .entry)) (now (bytes .exit)) (now (results .entry)) (now (results .exit)) ⌝ }
 {
     let count = items.len() / ITEM;
-    let mut last = CallRan { session: s, target: t, count: 0, ending: CallEnding { number: 0, value: 0 }, at: 0 };
+    let mut last = CallRan {
+        session: s,
+        target: t,
+        count: 0,
+        ending: CallEnding {
+            number: 0,
+            value: 0,
+        },
+        at: 0,
+    };
     let mut place: usize = 0;
     let mut i: usize = 0;
     while i < count {
@@ -157,7 +204,16 @@ pub fn run_list(s: Session, items: &[u32], acts: &[u32], t: Target, mem: &mut [u
             }
             Listed::Call(c) => {
                 let size = fitting(session_items::word_at(items, at + 2), bytes.len() - place);
-                last = run_call(last.session, c, session_items::word_at(items, at + 1), last.target, acts, last.at, mem, &mut bytes[place..place + size]);
+                last = run_call(
+                    last.session,
+                    c,
+                    session_items::word_at(items, at + 1),
+                    last.target,
+                    acts,
+                    last.at,
+                    mem,
+                    &mut bytes[place..place + size],
+                );
                 note_result(results, i, last.ending);
                 place += size;
                 i += 1;

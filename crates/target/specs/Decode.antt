@@ -32,7 +32,7 @@ rows =
     everywhere (Dp D.SelectWrite) ∷ everywhere (Ap A.OtherWrite) ∷ everywhere (Dp D.OtherRead) ∷ everywhere (Ap A.OtherRead) ∷
     -- 0xC to 0xF: at 0xC
     everywhere (Dp D.OtherWrite) ∷ banked (Ap A.DrwWrite) (Ap A.OtherWrite) ∷ everywhere (Dp D.RdbuffRead) ∷ banked (Ap A.DrwRead)
-        (Ap A.OtherRead) ∷ []
+    (Ap A.OtherRead) ∷ []
 
 abbrev pub atBank : Row → ℕ → Register
 atBank (everywhere r) bank = r

@@ -3,10 +3,10 @@
 use mathlib.Core.Bool.{Bool, true, false, not, _&&_}
 use mathlib.Core.List.{List}
 use Prim.Native.Nat.{ℕ}
-use Rattle.transport.specs.declared.Call.{Call}
-use Rattle.transport.specs.declared.Call.the-variants as C
-use Rattle.transport.specs.declared.Answer.{Answer}
-use Rattle.transport.specs.declared.Answer.the-variants.{Good, SwdError}
+use Rattle.wire.specs.declared.Call.{Call}
+use Rattle.wire.specs.declared.Call.the-variants as C
+use Rattle.wire.specs.declared.Answer.{Answer}
+use Rattle.wire.specs.declared.Answer.the-variants.{Good, SwdError}
 use Rattle.target.specs.declared.Target.{Target}
 use Rattle.target.specs.declared.Done.{Done}
 use Rattle.target.specs.declared.Delivered.{Delivered}

@@ -6,11 +6,5 @@ pub mod DebugPort
 pub mod MemAp
 pub mod Deliver
 pub mod Line
-pub mod DecodeLaws
-pub mod MemoryLaws
-pub mod MemApLaws
-pub mod DeliverLaws
 pub mod WellFormed
-pub mod WellFormedLaws
-pub mod LineLaws
-pub mod Expected
+pub mod Laws

@@ -4,9 +4,9 @@ use mathlib.Core.Bool.{Bool, true, false}
 use mathlib.Core.List.{List}
 use Prim.Native.Nat.{ℕ, _/_, _%_}
 use lib.Dec.{eqb, ltb}
-use Rattle.transport.specs.declared.Call.{Call}
-use Rattle.transport.specs.declared.Answer.{Answer}
-use Rattle.transport.specs.declared.Answer.the-variants as W
+use Rattle.wire.specs.declared.Call.{Call}
+use Rattle.wire.specs.declared.Answer.{Answer}
+use Rattle.wire.specs.declared.Answer.the-variants as W
 use Rattle.target.specs.declared.Target.{Target}
 use Rattle.target.specs.declared.Delivered.{Delivered}
 use Rattle.target.specs.declared.Loss.{Loss}

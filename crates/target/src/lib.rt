@@ -6,8 +6,8 @@ ghost use Prim.Native.Nat.{_+_, _-_, _*_, _/_, _%_, _≤_, _<_};
 ghost use lib.ListN.{length};
 ghost use Rattle.target.specs.Memory.{byteAt, inMemory, load, store, loaded, stored};
 ghost use Rattle.target.specs.Decode.{bankOf, registerOf};
-ghost use Rattle.target.specs.DecodeLaws.{registerAt};
-use transport::Answer;
+ghost use Rattle.target.specs.Laws.Decode.{registerAt};
+use wire::Answer;
 
 // DPIDR, d, the increment's width and the memory's base are fixed for a target, the rest starts arbitrary. `owed` counts the
 // reads of CTRL/STAT that do not show the acks yet; d is what a power-up owes. Of TAR the low `width` bits are incremented, 10 to 32.

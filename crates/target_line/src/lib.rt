@@ -10,8 +10,8 @@ use target::DpRegister;
 use target::Loss;
 use target::Register;
 use target::Target;
-use transport::Answer;
-use transport::Call;
+use wire::Answer;
+use wire::Call;
 
 // Whether a register is reached although sticky is set.
 fn is_exempt_dp(reg: DpRegister) -> bool
@@ -155,5 +155,8 @@ pub fn act_of(x: u32) -> Act
         return Act::Wait;
     }
     let error = loss_of(x / 4);
-    Act::Lose { delivered: x % 4 == 2, error: error }
+    Act::Lose {
+        delivered: x % 4 == 2,
+        error: error,
+    }
 }

@@ -3,12 +3,12 @@ use Prim.Native.Nat.{ℕ, _+_}
 use mathlib.Core.List.{List, map}
 use mathlib.Core.Path.{_≡_}
 use lib.Seq.{sets}
-use Rattle.transport.specs.Wire.{Wire, play}
-use Rattle.transport.specs.declared.Answer.{Answer}
-use Rattle.transport.specs.declared.Answer.the-variants as A
-use Rattle.numbers.specs.Log.{answerOf}
+use Rattle.wire.specs.Wire.{Wire, play}
+use Rattle.wire.specs.declared.Answer.{Answer}
+use Rattle.wire.specs.declared.Answer.the-variants as A
+use Rattle.wire_numbers.specs.Log.{answerOf}
 use Rattle.engine_run.specs.Run.{RanAs}
-use Rattle.calls.specs.declared.EngineCall.{EngineCall}
+use Rattle.engine_calls.specs.declared.EngineCall.{EngineCall}
 use Rattle.target_run.specs.Talk.{Talk}
 use Rattle.target_run.specs.declared.TargetRan.{TargetRan}
 

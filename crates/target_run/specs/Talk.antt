@@ -2,8 +2,8 @@
 -- rest: the transport calls, the ending, the engine's memory and the buffers.
 use Prim.Native.Nat.{ℕ, zero, suc}
 use mathlib.Core.List.{List, [], _∷_}
-use Rattle.transport.specs.Wire.{Wire, done, ask, tell}
-use Rattle.transport.specs.declared.Answer.{Answer}
+use Rattle.wire.specs.Wire.{Wire, done, ask, tell}
+use Rattle.wire.specs.declared.Answer.{Answer}
 use Rattle.target.specs.Line.{Heard, line}
 use Rattle.target.specs.declared.Target.{Target}
 use Rattle.target.specs.declared.Act.{Act}

@@ -8,4 +8,4 @@ count-spec =
     tie.close (tie.spec
     (λ c κs. search needs) (λ c. search needs) (λ c κs. search needs) (λ c. search needs) (λ c. search needs)
     (λ c. let ran = c .before .before .before .before .before in
-      let x = rw (ran .before .before .before .before .before .new .ensures) at (ran .run .ensures) in (x .count, x .buf, x .log)))
+    let x = rw (ran .before .before .before .before .before .new .ensures) at (ran .run .ensures) in (x .count, x .buf, x .log)))

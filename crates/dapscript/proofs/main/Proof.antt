@@ -9,7 +9,7 @@ pub main-spec : {M : Type 1} → statement M
 main-spec =
     tie.close (tie.spec
     (λ c κs. search needs) (λ c. search needs) (λ c κs. search needs) (λ c κs. search needs) (λ c. search needs) (λ c. search needs)
-      (λ c. search needs)
+    (λ c. search needs)
     (λ c κs. search needs) (λ c. search needs)
     (λ c. omega (arith, length-take (c .before .before .dapscript .result) (c .before .before .dapscript .last .1 .0))) (λ c κs. search needs)
     (λ c. search needs))

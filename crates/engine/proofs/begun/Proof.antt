@@ -1,6 +1,6 @@
 -- An operation is begun as `op_start` ensures, and `go` has the rest. An end is the tree's own end.
-use Rattle.jobs.specs.Asks.{exec-op}
-use Rattle.jobs.specs.Job.{exec}
+use Rattle.call.specs.Laws.Asks.{exec-op}
+use Rattle.call.specs.Job.{exec}
 use borrow.Author.Needs.{needs}
 use Rattle.engine.proofs.begun.Statement.{statement}
 use Rattle.engine.proofs.begun.Tie as tie
@@ -13,5 +13,8 @@ pub begun-spec : {M : Type 1} → statement M
 begun-spec =
     tie.close (tie.spec
     (λ c. search needs) (λ c κs. search needs) (λ c κs. search needs) (λ c. search needs) (λ c κs. search needs)
-    (λ c. ((λ ws b. simp (c .before .before .before .n .given .1) (simp (exec-op) (simp (c .before .op-start .ensures .0)
-      (c .go .ensures .0 ws b)))), c .go .ensures .1)) returns-2)
+    (λ c. (
+      (λ ws b. simp (c .before .before .before .n .given .1) (simp (exec-op) (simp (c .before .op-start .ensures .0)
+          (c .go .ensures .0 ws b)))),
+      c .go .ensures .1,
+    )) returns-2)

@@ -9,7 +9,11 @@ start-spec =
     tie.close (tie.spec
     (λ c κs. search needs) (λ c κs. search needs) (λ c. search needs) (λ c. search needs)
     (λ c. let x = c .before .before .before .before .start-over .ensures in simp (sym (c .before .before .before .before .before .before .before
-      .before .owns .ensures) ∙ c .before .before .before .before .before .before .before .if1 .taken) (record { steps = x .0; other = refl; whose =
-      x .1 })) (λ c κs. search needs) (λ c. search needs) (λ c. let x = c .before .before .start-over2 .ensures in simp (sym
-      (c .before .before .before .before .before .before .owns .ensures) ∙ c .before .before .before .before .before .if1 .left)
-      (record { steps = x .0; other = refl; whose = x .1 })))
+    .before .owns .ensures) ∙ c .before .before .before .before .before .before .before .if1 .taken) (record {
+      steps = x .0;
+      other = refl;
+      whose =
+          x .1;
+    })) (λ c κs. search needs) (λ c. search needs) (λ c. let x = c .before .before .start-over2 .ensures in simp (sym
+    (c .before .before .before .before .before .before .owns .ensures) ∙ c .before .before .before .before .before .if1 .left)
+    (record { steps = x .0; other = refl; whose = x .1 })))

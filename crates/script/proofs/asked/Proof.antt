@@ -4,7 +4,7 @@ use mathlib.Core.Path.{ap, sym, _∙_}
 use native.Mathlib.Omega.{arith}
 use borrow.Author.Needs.{needs}
 use lib.ListN.{replicate}
-use Rattle.script.specs.Lending.{part-zeros, part-length}
+use Rattle.script.specs.Laws.Lending.{part-zeros, part-length}
 use Rattle.script.proofs.asked.Statement.{statement}
 use Rattle.script.proofs.asked.Tie as tie
 

@@ -3,7 +3,7 @@ use mathlib.Core.Path.{sym, _∙_}
 use native.Mathlib.Omega.{arith}
 use borrow.Author.Needs.{needs}
 use Rattle.script.specs.Output.{outputOf}
-use Rattle.script.specs.Sizes.{sizes}
+use Rattle.script.specs.Laws.Sizes.{sizes}
 use Rattle.script.proofs.dapscript.Statement.{statement}
 use Rattle.script.proofs.dapscript.Tie as tie
 
@@ -26,5 +26,5 @@ dapscript-spec =
     tie.close (tie.spec
     (λ c κs. search needs)
     (λ c κs. sizes (c .before .before .before .before .before .args .input .now) (sym (c .before .before .well-formed .ensures)
-      ∙ c .before .if1 .taken))
+    ∙ c .before .if1 .taken))
     (λ c. search needs) returns (λ c κs. search needs) (λ c. search needs) returns-2)

@@ -8,6 +8,14 @@ frame-in-spec =
     (λ c κs. search needs) (λ c κs. search needs) (λ c κs. search needs) (λ c κs. search needs) (λ c κs. search needs) (λ c κs. search needs)
     (λ c κs. search needs) (λ c κs. search needs)
     (λ c. let w7 = c .before in let w6 = w7 .before in let w5 = w6 .before in let w4 = w5 .before in let w3 = w4 .before in
-      let w2 = w3 .before in let w1 = w2 .before in
-      simp (w1 .word-at .ensures, w2 .word-at2 .ensures, w3 .word-at3 .ensures, w4 .word-at4 .ensures, w5 .word-at5 .ensures,
-        w6 .word-at6 .ensures, w7 .word-at7 .ensures, c .word-at8 .ensures)))
+    let w2 = w3 .before in let w1 = w2 .before in
+    simp (
+      w1 .word-at .ensures,
+      w2 .word-at2 .ensures,
+      w3 .word-at3 .ensures,
+      w4 .word-at4 .ensures,
+      w5 .word-at5 .ensures,
+      w6 .word-at6 .ensures,
+      w7 .word-at7 .ensures,
+      c .word-at8 .ensures,
+    )))

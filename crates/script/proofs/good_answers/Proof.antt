@@ -4,7 +4,7 @@ use mathlib.Core.Path.{_≡_, refl, sym, _∙_}
 use native.Mathlib.Omega.{arith}
 use borrow.Author.Tests.{not-true, not-false}
 use Rattle.script.specs.Script.{goodAnswers}
-use Rattle.script.specs.Loads.{good-more, good-none}
+use Rattle.script.specs.Laws.Loads.{good-more, good-none}
 use Rattle.script.proofs.good_answers.Statement.{statement}
 use Rattle.script.proofs.good_answers.Tie as tie
 
@@ -23,7 +23,7 @@ good-answers-spec = tie.close (tie.spec
     (λ c. omega arith) (λ c. omega arith) (λ c. omega arith)
     (λ c. let d = c .before .before .before in (
       d .loop .inv .0 ∙ good-more (d .before .before .args .input .now) (d .loop .left) (d .loop .at) (omega arith)
-        ∙ simp (sym (c .before .good-answer .ensures)
+          ∙ simp (sym (c .before .good-answer .ensures)
           ∙ not-false _ (c .if1 .left)),
       omega arith,
       omega arith,

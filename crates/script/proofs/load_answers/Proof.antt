@@ -4,10 +4,10 @@ use mathlib.Core.Path.{_≡_, refl}
 use native.Mathlib.Omega.{arith}
 use borrow.Author.Needs.{needs}
 use lib.ListN.{length}
-use Rattle.listing.specs.Puts.{Left}
-use Rattle.request.specs.BigEndian.{row}
+use Rattle.script_lines.specs.Laws.Puts.{Left}
+use Rattle.script_request.specs.BigEndian.{row}
 use Rattle.script.specs.Script.{answerAt}
-use Rattle.script.specs.Loads.{row-all, left-row, row-whole}
+use Rattle.script.specs.Laws.Loads.{row-all, left-row, row-whole}
 use Rattle.script.proofs.load_answers.Statement.{statement}
 use Rattle.script.proofs.load_answers.Tie as tie
 
@@ -40,5 +40,5 @@ load-answers-spec = tie.close (tie.spec
     (λ c. search needs)
     (λ c. let d = c .before .before .before .before in
     row-whole (answerAt (d .args .input .now)) 7 (length (d .args .answers .now)) (d .args .i) (c .before .loop .j) (c .before .loop .at)
-        (omega arith) refl
+    (omega arith) refl
     (c .before .loop .inv .3)))

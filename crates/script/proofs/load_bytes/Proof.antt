@@ -4,8 +4,8 @@ use mathlib.Core.Path.{_≡_}
 use native.Mathlib.Omega.{arith}
 use borrow.Author.Needs.{needs}
 use lib.ListN.{length, drop, length-drop}
-use Rattle.listing.specs.Puts.{Left, left-all}
-use Rattle.script.specs.Loads.{left-rest, rest-whole}
+use Rattle.script_lines.specs.Laws.Puts.{Left, left-all}
+use Rattle.script.specs.Laws.Loads.{left-rest, rest-whole}
 use Rattle.script.proofs.load_bytes.Statement.{statement}
 use Rattle.script.proofs.load_bytes.Tie as tie
 

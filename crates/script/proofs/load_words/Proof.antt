@@ -4,9 +4,9 @@ use mathlib.Core.Path.{_≡_, refl}
 use native.Mathlib.Omega.{arith}
 use borrow.Author.Needs.{needs}
 use lib.ListN.{length}
-use Rattle.listing.specs.Puts.{Left}
-use Rattle.request.specs.BigEndian.{row, word}
-use Rattle.script.specs.Loads.{row-all, left-row, row-whole}
+use Rattle.script_lines.specs.Laws.Puts.{Left}
+use Rattle.script_request.specs.BigEndian.{row, word}
+use Rattle.script.specs.Laws.Loads.{row-all, left-row, row-whole}
 use Rattle.script.proofs.load_words.Statement.{statement}
 use Rattle.script.proofs.load_words.Tie as tie
 
@@ -39,4 +39,4 @@ load-words-spec = tie.close (tie.spec
     (λ c. search needs)
     (λ c. let d = c .before .before .before .before in
     row-whole (word (d .args .a .now)) 4 (length (d .args .words .now)) (d .args .size) (c .before .loop .j) (c .before .loop .at)
-        (omega arith) refl (c .before .loop .inv .3)))
+    (omega arith) refl (c .before .loop .inv .3)))

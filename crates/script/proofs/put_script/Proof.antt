@@ -3,7 +3,7 @@ use mathlib.Core.Path.{sym, _∙_}
 use native.Mathlib.Omega.{arith}
 use borrow.Author.Needs.{needs}
 use Rattle.script.specs.Output.{requestText}
-use Rattle.script.specs.Performing.{script-request}
+use Rattle.script.specs.Laws.Performing.{script-request}
 use Rattle.script.proofs.put_script.Statement.{statement}
 use Rattle.script.proofs.put_script.Tie as tie
 
@@ -13,14 +13,14 @@ returns c =
     let r = script-request (c .before .before .before .before .before .before .before .before .before .before .before .before .args .input .now)
     (c .before .before .before .before .before .before .before .before .before .half .ensures)
     (c .before .before .before .before .before .before .before .before .byte .ensures) (c .before .before .before .before .before .before .request-of
-      .ensures) in
+    .ensures) in
     (rw (sym r ∙ c .before .before .before .before .enum-told .given .1) (c .before .before .put-malformed .ensures .0), omega arith)
 
 returns-2 : tie.Need-returns-2
 unfolding requestText
 returns-2 c =
     let r = script-request (c .before .before .before .before .before .before .before .before .before .before .before .before .before .args .input
-        .now)
+    .now)
     (c .before .before .before .before .before .before .before .before .before .before .half .ensures)
     (c .before .before .before .before .before .before .before .before .before .byte .ensures)
     (c .before .before .before .before .before .before .before .request-of .ensures) in

@@ -38,7 +38,7 @@ returns-6 : tie.Need-returns-6
 unfolding wellFormed
 returns-6 c = (simp (le-leb _ _ (c .before .before .before .before .before .before .before .if1 .left))
     (simp (eq-eqb _ _ (rw (c .before .before .before .before .before .before .byte .ensures) at (c .before .before .before .before .before .if2
-      .left)))
+    .left)))
     (simp (le-leb _ _ (rw (c .before .before .before .before .half .ensures) at (c .before .before .before .if3 .left)))
     (simp (le-leb _ _ (rw (c .before .before .before .before .half .ensures) at (c .before .before .if4 .left)))
     (simp (eq-eqb _ _ (rw (c .before .before .before .before .half .ensures) at (c .before .if5 .left))) (rw

@@ -1,6 +1,6 @@
 -- The array is so many zeros by definition.
 use mathlib.Core.Path.{refl}
-use Rattle.script.specs.Lending.{zeros}
+use Rattle.script.specs.Laws.Lending.{zeros}
 use Rattle.script.proofs.zero_bytes.Statement.{statement}
 use Rattle.script.proofs.zero_bytes.Tie as tie
 

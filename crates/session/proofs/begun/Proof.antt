@@ -1,7 +1,7 @@
 -- The engine's start reports the tree of the call, from what the call remembers and over the row that it finds.
 use mathlib.Core.Path.{refl}
-use Rattle.session.specs.Ends.{answers-as}
-use Rattle.session.specs.Starts.{starts}
+use Rattle.session.specs.Laws.Ends.{answers-as}
+use Rattle.session.specs.Laws.Starts.{starts}
 use borrow.Author.Needs.{needs}
 use Rattle.session.proofs.begun.Statement.{statement}
 use Rattle.session.proofs.begun.Tie as tie
@@ -12,8 +12,8 @@ begun-spec =
     (λ c κs. search needs) (λ c κs. search needs) (λ c κs. search needs) (λ c κs. search needs) (λ c. search needs) (λ c κs. search needs)
     (λ c κs. search needs) (λ c κs. search needs) (λ c. search needs)
     (λ c. let started = c .before .before .before .before .before in let row = started .before .before .before .before in
-      let known = row .before in let connect = known .before in let call = connect .before in let t = call .before .before .before .args in
-      answers-as _ _ _ _ _ _ _ _ _ (c .before .kind-of .ensures) refl
-      (c .settled .ensures _ _ (starts (t .c) _ _ (t .s .state .remembered) _ (t .s .frame) _ _ (t .buf .now) _ _ _ _
-      (call .engine-call .ensures) (connect .is-connect .ensures) (known .remembered-for .ensures) (row .row-of .ensures)
-        (started .start .ensures)))))
+    let known = row .before in let connect = known .before in let call = connect .before in let t = call .before .before .before .args in
+    answers-as _ _ _ _ _ _ _ _ _ (c .before .kind-of .ensures) refl
+    (c .settled .ensures _ _ (starts (t .c) _ _ (t .s .state .remembered) _ (t .s .frame) _ _ (t .buf .now) _ _ _ _
+    (call .engine-call .ensures) (connect .is-connect .ensures) (known .remembered-for .ensures) (row .row-of .ensures)
+    (started .start .ensures)))))

@@ -6,4 +6,4 @@ pub phase-at-spec : {M : Type 1} → statement M
 phase-at-spec =
     tie.close (tie.spec
     (λ c. search needs) (λ c. search needs) (λ c κs. search needs) (λ c. simp (c .enum-told .given .1)) (λ c. simp
-      (c .before .before .before .next .given .1) (c .phase-ended .ensures)))
+    (c .before .before .before .next .given .1) (c .phase-ended .ensures)))

@@ -1,6 +1,6 @@
 use mathlib.Core.Path.{ap, _∙_}
-use Rattle.calls.specs.Calls.{rowWith}
-use Rattle.calls.specs.declared.Frame.{Frame}
+use Rattle.engine_calls.specs.Calls.{rowWith}
+use Rattle.engine_calls.specs.declared.Frame.{Frame}
 use borrow.Author.Needs.{needs}
 use Rattle.session.proofs.row_of.Statement.{statement}
 use Rattle.session.proofs.row_of.Tie as tie

@@ -1,7 +1,7 @@
 -- What the engine reports of a tree is handed on. Phase and frame go by the number of the ending, 0 or not, which tells the same as
 -- the outcome at the tree's end.
 use mathlib.Core.Path.{_∙_}
-use Rattle.session.specs.Ends.{phase-at, frame-at}
+use Rattle.session.specs.Laws.Ends.{phase-at, frame-at}
 use borrow.Author.Needs.{needs}
 use Rattle.session.proofs.settled.Statement.{statement}
 use Rattle.session.proofs.settled.Tie as tie
@@ -17,4 +17,5 @@ settled-spec =
       memory = h .memory;
       frame = c .frame-at .ensures ∙ frame-at _ w _ _ _ b _ (h .next) (h .memory);
       tree = h .tree;
-      counted = h .counted }))
+      counted = h .counted;
+    }))

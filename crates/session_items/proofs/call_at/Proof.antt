@@ -11,7 +11,7 @@ pub call-at-spec : {M : Type 1} → statement M
 call-at-spec =
     tie.close (tie.spec
     (λ c. let a = c .before .before .args in ap (λ (n : ℕ). byNumber n (a .ws .now) (a .at)) (sym (List·getD-eq-default (a .ws .now) 0
-      (c .if1 .taken))))
+    (c .if1 .taken))))
     (λ c κs. search needs) (λ c κs. search needs)
     (λ c. let a = c .before .before .before .before .args in c .by-number .ensures
-      ∙ ap (λ (n : ℕ). byNumber n (a .ws .now) (a .at)) (c .before .word-at .ensures)))
+    ∙ ap (λ (n : ℕ). byNumber n (a .ws .now) (a .at)) (c .before .word-at .ensures)))

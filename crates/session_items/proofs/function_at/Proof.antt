@@ -8,5 +8,12 @@ function-at-spec =
     tie.close (tie.spec
     (λ c κs. search needs) (λ c κs. search needs) (λ c κs. search needs) (λ c κs. search needs) (λ c κs. search needs) (λ c κs. search needs)
     (λ c κs. search needs)
-    (λ c. let b3 = c .before .before .before in rw (b3 .before .before .before .arg-at .ensures, b3 .before .before .arg-at2 .ensures,
-      b3 .before .arg-at3 .ensures, b3 .arg-at4 .ensures, c .before .before .arg-at5 .ensures, c .before .arg-at6 .ensures, c .arg-at7 .ensures)))
+    (λ c. let b3 = c .before .before .before in rw (
+      b3 .before .before .before .arg-at .ensures,
+      b3 .before .before .arg-at2 .ensures,
+      b3 .before .arg-at3 .ensures,
+      b3 .arg-at4 .ensures,
+      c .before .before .arg-at5 .ensures,
+      c .before .arg-at6 .ensures,
+      c .arg-at7 .ensures,
+    )))

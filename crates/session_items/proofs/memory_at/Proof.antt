@@ -11,5 +11,10 @@ memory-at-spec =
     (λ c. rw (c .match .keys1)) (λ c. rw (c .before .match .keys2, c .arg-at .ensures))
     (λ c. rw (c .before .before .match .keys3, c .before .arg-at2 .ensures, c .arg-at3 .ensures))
     (λ c. rw (c .before .match .keys4, c .arg-at4 .ensures)) (λ c. rw (c .before .match .keys5, c .arg-at5 .ensures))
-    (λ c. let m = c .match .rest in simp (ne-eqb _ _ (m .0 .0 .0 .0 .1), ne-eqb _ _ (m .0 .0 .0 .1), ne-eqb _ _ (m .0 .0 .1), ne-eqb _ _ (m .0 .1),
-      ne-eqb _ _ (m .1))))
+    (λ c. let m = c .match .rest in simp (
+      ne-eqb _ _ (m .0 .0 .0 .0 .1),
+      ne-eqb _ _ (m .0 .0 .0 .1),
+      ne-eqb _ _ (m .0 .0 .1),
+      ne-eqb _ _ (m .0 .1),
+      ne-eqb _ _ (m .1),
+    )))

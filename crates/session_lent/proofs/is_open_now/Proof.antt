@@ -50,4 +50,4 @@ is-open-now-spec 𝓤 H 𝓜 𝓖 𝓡 =
     (λ κs a. f.clauses 𝓤 H (𝓖 .A) (𝓜 .mem) (𝓡 .run) κs a .ensures) (λ κs a g r ws. fact-mono 𝓤 _ _ (λ x. search needs))
     (tablesOf 𝓤 H 𝓜 (tables 𝓤 H 𝓜 𝓡 code.env))
     (cited 𝓤 H (tripleOf 𝓤 H (𝓖 .A) inner.signature (inner.spec 𝓤 H (𝓖 .A) (𝓜 .mem) (𝓡 .run))) 𝓜 𝓡 code.env #inner inner-def.routine calls-inner
-      (inner-thm.met 𝓤 H 𝓜 𝓖 𝓡)))
+    (inner-thm.met 𝓤 H 𝓜 𝓖 𝓡)))

@@ -67,10 +67,10 @@ start-spec 𝓤 H 𝓜 𝓖 𝓡 =
     entered 𝓤 H (tripleOf 𝓤 H (𝓖 .A) f.signature (f.spec 𝓤 H (𝓖 .A) (𝓜 .mem) (𝓡 .run)))
     (tables 𝓤 H 𝓜 𝓡 code.env .C) (tables 𝓤 H 𝓜 𝓡 code.env .Λ) #f code.function (code.unfolded 𝓤 H 𝓜 𝓡)
     (BufLaw.meets-so (S.struct .name) t p n (pointee (T.the-row .written)) #inner S.the-row (λ r. r .session) (λ r. r .reply) Started 𝓤 H (𝓖 .A)
-      (givenOf 𝓤 H 𝓜 𝓖) (λ h a ys. emp 𝓤)
+    (givenOf 𝓤 H 𝓜 𝓖) (λ h a ys. emp 𝓤)
     (Law.struct-ruled T.the-type T′.the-laws T′.the-plain) (Law.enum-ruled P.the-type P′.the-laws P′.the-plain tt)
-      (Law.struct-ruled N.the-type N′.the-laws N′.the-plain) (tell 𝓤 H (𝓖 .A) (givenOf 𝓤 H 𝓜 𝓖))
+    (Law.struct-ruled N.the-type N′.the-laws N′.the-plain) (tell 𝓤 H (𝓖 .A) (givenOf 𝓤 H 𝓜 𝓖))
     (λ κs a. f.clauses 𝓤 H (𝓖 .A) (𝓜 .mem) (𝓡 .run) κs a .ensures) (λ κs a g r ws. fact-mono 𝓤 _ _ (λ x. search needs))
     (tablesOf 𝓤 H 𝓜 (tables 𝓤 H 𝓜 𝓡 code.env))
     (cited 𝓤 H (tripleOf 𝓤 H (𝓖 .A) inner.signature (inner.spec 𝓤 H (𝓖 .A) (𝓜 .mem) (𝓡 .run))) 𝓜 𝓡 code.env #inner inner-def.routine calls-inner
-      (inner-thm.met 𝓤 H 𝓜 𝓖 𝓡)))
+    (inner-thm.met 𝓤 H 𝓜 𝓖 𝓡)))

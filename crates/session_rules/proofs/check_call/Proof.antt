@@ -20,11 +20,11 @@ check-call-spec =
     (λ c. simp (comes (c .before .is-admitted .ensures) (c .if1 .taken)))
     (λ c κs. search needs)
     (λ c. let a = c .before .before in
-      simp (comes (a .before .is-admitted .ensures) (a .if1 .left)) (simp (comes (c .before .is-aligned .ensures) (c .if2 .taken))))
+    simp (comes (a .before .is-admitted .ensures) (a .if1 .left)) (simp (comes (c .before .is-aligned .ensures) (c .if2 .taken))))
     (λ c κs. search needs)
     (λ c. let b = c .before .before in let a = b .before .before in
-      simp (comes (a .before .is-admitted .ensures) (a .if1 .left)) (simp (comes (b .before .is-aligned .ensures) (b .if2 .left))
-      (simp (comes (c .before .is-ranged .ensures) (c .if3 .taken)))))
+    simp (comes (a .before .is-admitted .ensures) (a .if1 .left)) (simp (comes (b .before .is-aligned .ensures) (b .if2 .left))
+    (simp (comes (c .before .is-ranged .ensures) (c .if3 .taken)))))
     (λ c. let b = c .before .before in let a = b .before .before in
-      simp (comes (a .before .is-admitted .ensures) (a .if1 .left)) (simp (comes (b .before .is-aligned .ensures) (b .if2 .left))
-      (simp (comes (c .before .is-ranged .ensures) (c .if3 .left))))))
+    simp (comes (a .before .is-admitted .ensures) (a .if1 .left)) (simp (comes (b .before .is-aligned .ensures) (b .if2 .left))
+    (simp (comes (c .before .is-ranged .ensures) (c .if3 .left))))))

@@ -7,4 +7,4 @@ engine-call-spec =
     tie.close (tie.spec
     (λ c. search needs) (λ c. search needs) (λ c. search needs) (λ c. search needs) (λ c. search needs) (λ c. search needs) (λ c. search needs)
     (λ c. simp (c .enum-told .given .1)) (λ c. simp (c .before .c .given .1)) (λ c. simp (c .before .c2 .given .1)) (λ c. simp
-      (c .before .c3 .given .1)) (λ c. simp (c .before .c4 .given .1)) (λ c. simp (c .before .c5 .given .1)) (λ c. simp (c .before .c6 .given .1)))
+    (c .before .c3 .given .1)) (λ c. simp (c .before .c4 .given .1)) (λ c. simp (c .before .c5 .given .1)) (λ c. simp (c .before .c6 .given .1)))

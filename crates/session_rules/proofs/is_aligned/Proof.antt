@@ -6,5 +6,5 @@ pub is-aligned-spec : {M : Type 1} → statement M
 is-aligned-spec =
     tie.close (tie.spec
     (λ c. search needs) (λ c. search needs) (λ c. search needs) (λ c. search needs) (λ c. search needs) (λ c. search needs) (λ c. search needs)
-      (λ c κs. search needs) (λ c. search needs) (λ c. simp (c .before .c .given .1)) (λ c. simp (c .before .c2 .given .1)) (λ c. search needs)
-      (λ c. search needs) (λ c. search needs) (λ c. simp (c .before .before .c3 .given .1, c .breakpoint-of .ensures)))
+    (λ c κs. search needs) (λ c. search needs) (λ c. simp (c .before .c .given .1)) (λ c. simp (c .before .c2 .given .1)) (λ c. search needs)
+    (λ c. search needs) (λ c. search needs) (λ c. simp (c .before .before .c3 .given .1, c .breakpoint-of .ensures)))

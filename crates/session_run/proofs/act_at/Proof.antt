@@ -1,6 +1,6 @@
 -- The word at the place is the first act's number; 0, past the end, delivers (`act-now`).
 use mathlib.Core.Path.{ap, _∙_}
-use Rattle.session_run.specs.Turn.{act-now}
+use Rattle.session_run.specs.Laws.Turn.{act-now}
 use Rattle.target.specs.Line.{actOf}
 use borrow.Author.Needs.{needs}
 use Rattle.session_run.proofs.act_at.Statement.{statement}

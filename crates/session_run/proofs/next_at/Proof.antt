@@ -1,5 +1,5 @@
 -- Inside the list the next place is the tail's (`acts-then`). Past its end there is none, and the place stays.
-use Rattle.session_run.specs.Turn.{acts-then, acts-over}
+use Rattle.session_run.specs.Laws.Turn.{acts-then, acts-over}
 use borrow.Author.Needs.{needs}
 use Rattle.session_run.proofs.next_at.Statement.{statement}
 use Rattle.session_run.proofs.next_at.Tie as tie

@@ -7,5 +7,8 @@ use Rattle.target.proofs.bank.Tie as tie
 
 pub bank-spec : {M : Type 1} → statement M
 bank-spec = tie.close (tie.spec
-    (λ c. (simp (eq-eqb _ _ (c .if1 .taken)), omega arith)) (λ c. search needs) (λ c. search needs) (λ c. (simp (ne-eqb _ _
-      (c .if1 .left)), omega arith)))
+    (λ c. (simp (eq-eqb _ _ (c .if1 .taken)), omega arith)) (λ c. search needs) (λ c. search needs) (λ c. (
+      simp (ne-eqb _ _
+          (c .if1 .left)),
+      omega arith,
+    )))

@@ -1,5 +1,5 @@
 -- The place has the request and the bank as its digits, so that dividing by 4096 gives both back (`key-split`).
-use Rattle.target.specs.DecodeLaws.{key-split}
+use Rattle.target.specs.Laws.Decode.{key-split}
 use mathlib.Core.Path.{_∙_}
 use borrow.Author.Needs.{needs}
 use Rattle.target.proofs.decode.Statement.{statement}

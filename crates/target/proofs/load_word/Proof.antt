@@ -1,5 +1,5 @@
 -- `in_memory` decides as the definition does; it also says that the four bytes read exist.
-use Rattle.target.specs.MemoryLaws.{in-memory}
+use Rattle.target.specs.Laws.Memory.{in-memory}
 use mathlib.Core.Path.{sym, _∙_}
 use borrow.Author.Needs.{needs}
 use Rattle.target.proofs.load_word.Statement.{statement}

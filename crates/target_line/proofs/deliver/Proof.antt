@@ -5,9 +5,9 @@ use Prim.Native.Nat.{ℕ}
 use Prim.{tt}
 use types.Run.{OneOf, miss}
 use denote.Enum.Declared.{tagOf}
-use Rattle.transport.proofs.Call as call
-use Rattle.transport.specs.declared.Call.{Call}
-use Rattle.transport.specs.declared.Call.the-variants as C
+use Rattle.wire.proofs.Call as call
+use Rattle.wire.specs.declared.Call.{Call}
+use Rattle.wire.specs.declared.Call.the-variants as C
 use Rattle.target.specs.declared.Target.{Target}
 use Rattle.target.specs.Deliver.{deliver, untouched}
 use borrow.Author.Needs.{needs}

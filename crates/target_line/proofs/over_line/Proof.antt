@@ -7,7 +7,7 @@ pub over-line-spec : {M : Type 1} → statement M
 over-line-spec =
     tie.close (tie.spec
     (λ c. search needs) (λ c κs. search needs) (λ c. search needs) (λ c. search needs) (λ c κs. search needs) (λ c κs. search needs)
-      (λ c. search needs)
+    (λ c. search needs)
     (λ c. let a = c .before .before .before .before .before .before .before .before .act .given .1 in
     let d = c .before .before .before .before .before .if1 .taken in
     let g = c .before .before .before .deliver2 .ensures in

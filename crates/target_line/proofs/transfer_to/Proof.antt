@@ -1,6 +1,6 @@
 -- The register that was decoded is the definition's, so that the transfer is the access to it (`transfer-at`).
 -- It is refused, or reached through its port.
-use Rattle.target.specs.DeliverLaws.{transfer-at}
+use Rattle.target.specs.Laws.Deliver.{transfer-at}
 use mathlib.Core.Path.{sym, _∙_}
 use borrow.Author.Needs.{needs}
 use Rattle.target_line.proofs.transfer_to.Statement.{statement}

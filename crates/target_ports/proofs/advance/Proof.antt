@@ -1,6 +1,6 @@
 -- The span is a power of two up to 2^32, so that TAR's high part and the wrapped low part stay within a word (`spanned`).
 -- Where AddrInc is not 1, the target stands.
-use Rattle.target.specs.MemApLaws.{Spanned, spanned}
+use Rattle.target.specs.Laws.MemAp.{Spanned, spanned}
 use borrow.Author.Tests.{eq-eqb, ne-eqb}
 use native.Mathlib.Omega.{arith}
 use borrow.Author.Needs.{needs}

@@ -9,5 +9,11 @@ ctrl-stat-spec =
     (λ c κs. search needs) (λ c κs. search needs) (λ c. search needs) (λ c κs. search needs) (λ c κs. search needs) (λ c. search needs)
     (λ c κs. search needs) (λ c. search needs)
     (λ c. let b = c .before .before in
-    simp (b .before .before .bit-if .ensures .0, b .before .bit-if2 .ensures .0, c .before .bit-if3 .ensures .0, c .bit-if4 .ensures .0, b .is-acked
-        .ensures)))
+    simp (
+      b .before .before .bit-if .ensures .0,
+      b .before .bit-if2 .ensures .0,
+      c .before .bit-if3 .ensures .0,
+      c .bit-if4 .ensures .0,
+      b .is-acked
+          .ensures,
+    )))

@@ -1,5 +1,5 @@
 -- What memory has at TAR decides as the definition does (`read-word`, `read-absent`).
-use Rattle.target.specs.MemApLaws.{read-word, read-absent}
+use Rattle.target.specs.Laws.MemAp.{read-word, read-absent}
 use mathlib.Core.Path.{sym, _∙_}
 use borrow.Author.Needs.{needs}
 use Rattle.target_ports.proofs.drw_read.Statement.{statement}

@@ -9,7 +9,7 @@ reach-dp-spec =
     (λ c. search needs) (λ c κs. search needs) (λ c κs. search needs) (λ c. search needs) (λ c κs. search needs) (λ c. search needs)
     (λ c κs. search needs) (λ c κs. search needs) (λ c. search needs) (λ c κs. search needs) (λ c κs. search needs) (λ c κs. search needs)
     (λ c. search needs) (λ c κs. search needs) (λ c. search needs) (λ c κs. search needs) (λ c. search needs) (λ c κs. search needs)
-      (λ c. search needs)
+    (λ c. search needs)
     (λ c κs. search needs) (λ c. simp (c .before .before .enum-told .given .1, c .before .cleared .ensures, c .did .ensures))
     (λ c. simp (c .before .enum-told2 .given .1, c .did2 .ensures))
     (λ c. simp (c .before .before .enum-told3 .given .1, c .before .requested .ensures, c .did3 .ensures))

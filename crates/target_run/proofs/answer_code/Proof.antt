@@ -2,8 +2,8 @@
 use Prim.Native.Nat.{ℕ, _+_, _/_, _%_, _<_}
 use mathlib.Core.Path.{_≡_, refl}
 use native.Mathlib.Omega.{arith}
-use Rattle.transport.specs.declared.Answer.the-variants as A
-use Rattle.numbers.specs.Log.{answerOf}
+use Rattle.wire.specs.declared.Answer.the-variants as A
+use Rattle.wire_numbers.specs.Log.{answerOf}
 use borrow.Author.Needs.{needs}
 use Rattle.target_run.proofs.answer_code.Statement.{statement}
 use Rattle.target_run.proofs.answer_code.Tie as tie

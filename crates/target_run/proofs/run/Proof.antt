@@ -1,7 +1,7 @@
 -- The call starts over a row with the frame that it finds, goes on over target and line, and leaves its frame: what `start` and
 -- `drive` ensure, put together (`call-over`).
 use mathlib.Core.Path.{sym, _∙_}
-use Rattle.target_run.specs.OverLaws.{call-over}
+use Rattle.target_run.specs.Laws.Over.{call-over}
 use borrow.Author.Needs.{needs}
 use Rattle.target_run.proofs.run.Statement.{statement}
 use Rattle.target_run.proofs.run.Tie as tie
@@ -13,7 +13,7 @@ returns c =
     let rowed = began .before .before .before .before in let framed = rowed .before .before in
     let a = framed .before .before .before .before .before .before .before .args in let frame = framed .frame-for .ensures in
     rw (sym frame) (rw (sym (rowed .row-for .ensures)) (call-over (a .c) _ _ _ (a .budget) (a .acts .now) (a .t) _ _ _ _ _ _ _ _ _ _ _ _ _ _ _ _ _
-        frame (began .start .ensures) (drove .drive .ensures) (c .frame-left .ensures)))
+    frame (began .start .ensures) (drove .drive .ensures) (c .frame-left .ensures)))
 
 -- the words, and the buffer
 same-length-2 : tie.Need-same-length-2

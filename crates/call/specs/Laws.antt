@@ -1,0 +1,4 @@
+pub mod Byte
+pub mod Change
+pub mod Job
+pub mod Asks

@@ -1,0 +1,4 @@
+pub mod Bytes
+pub mod Change
+pub mod Job
+pub mod Laws

@@ -1,0 +1,2 @@
+pub mod Connect
+pub mod Laws

@@ -1,0 +1,4 @@
+pub mod Cortex
+pub mod Core
+pub mod Function
+pub mod Laws

@@ -1,0 +1,3 @@
+pub mod Fpb
+pub mod Breakpoint
+pub mod Laws

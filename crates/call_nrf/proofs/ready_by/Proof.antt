@@ -1,0 +1,10 @@
+-- The test on bit 0 is the definition's.
+use borrow.Author.Tests.{eq-eqb, ne-eqb}
+use borrow.Author.Needs.{needs}
+use Rattle.call_nrf.proofs.ready_by.Statement.{statement}
+use Rattle.call_nrf.proofs.ready_by.Tie as tie
+
+pub ready-by-spec : {M : Type 1} → statement M
+ready-by-spec = tie.close (tie.spec
+    (λ c κs. search needs) (λ c. simp (eq-eqb _ _ (c .before .if1 .taken)) (c .flash-on .ensures)) (λ c κs. search needs)
+    (λ c. simp (ne-eqb _ _ (c .before .if1 .left)) (c .wait-on .ensures)))

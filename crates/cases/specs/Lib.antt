@@ -1,3 +1,0 @@
-pub mod Given
-pub mod ConnectLaws
-pub mod Table

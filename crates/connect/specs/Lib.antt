@@ -1,2 +1,0 @@
-pub mod Connect
-pub mod After

@@ -1,5 +1,0 @@
-pub mod Cortex
-pub mod Core
-pub mod Function
-pub mod After
-pub mod Turns

@@ -1,0 +1,15 @@
+use Prim.Native.Nat.{ℕ}
+use mathlib.Core.List.{List}
+use mathlib.Core.Path.{ap, _∙_}
+use Rattle.engine_calls.specs.Calls.{pick}
+use borrow.Author.Needs.{needs}
+use Rattle.engine_calls.proofs.frame_left.Statement.{statement}
+use Rattle.engine_calls.proofs.frame_left.Tie as tie
+
+pub frame-left-spec : {M : Type 1} → statement M
+frame-left-spec =
+    tie.close (tie.spec
+    (λ c. search needs) (λ c. search needs) (λ c. search needs) (λ c κs. search needs) (λ c κs. search needs) (λ c. search needs) (λ c. search needs)
+    (λ c. let t = c .before .before .before .before .args in
+    simp (c .before .before .enum-told3 .given .1)
+    (c .handed-over .ensures ∙ ap (λ (left : List ℕ). pick (t .ok) left (t .before)) (c .before .frame-of .ensures))))

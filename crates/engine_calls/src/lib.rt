@@ -1,0 +1,291 @@
+// One enum of all 35 calls. What a call asks for first and after each operation, over the groups; which words it runs over,
+// and where its frame is.
+ghost use mathlib.Core.Path.{_≡_};
+ghost use lib.ListN.{replicate};
+ghost use lib.Seq.{sets};
+ghost use Rattle.call.specs.Laws.Asks.{asks};
+ghost use Rattle.call_connect.specs.Laws.After.{connectAfter};
+ghost use Rattle.call_memory.specs.Laws.After.{memoryAfter};
+ghost use Rattle.call_core.specs.Laws.After.{coreAfter};
+ghost use Rattle.call_fpb.specs.Laws.After.{fpbAfter};
+ghost use Rattle.call_nrf.specs.Laws.After.{nrfAfter};
+ghost use Rattle.engine_calls.specs.Calls.{jobOf, lentWords, lentFlash, lent, pick, frameOf, coreFrame, frameFor, rowWith, leave};
+ghost use Rattle.engine_calls.specs.Laws.After.{callAfter, asksJob};
+use call::Change;
+use call::Next;
+use call_connect::ConnectAsks;
+use call_connect::ConnectAt;
+use call_connect::ConnectCall;
+use call_core::CoreAsks;
+use call_core::CoreAt;
+use call_core::CoreCall;
+use call_fpb::FpbAsks;
+use call_fpb::FpbAt;
+use call_fpb::FpbCall;
+use call_memory::MemoryAsks;
+use call_memory::MemoryAt;
+use call_memory::MemoryCall;
+use call_nrf::NrfAsks;
+use call_nrf::NrfAt;
+use call_nrf::NrfCall;
+use wire::Outcome;
+
+// The calls and their arguments; words and bytes are those that the caller lends.
+pub enum EngineCall {
+    Connect(ConnectCall),
+    Memory(MemoryCall),
+    Core(CoreCall),
+    Fpb(FpbCall),
+    Nrf(NrfCall),
+}
+
+// Which operation of a call is in flight.
+pub enum At {
+    Connect(ConnectAt),
+    Memory(MemoryAt),
+    Core(CoreAt),
+    Fpb(FpbAt),
+    Nrf(NrfAt),
+}
+
+pub struct Asks {
+    pub change: Change,
+    pub at: At,
+    pub next: Next,
+}
+
+// What a call does with the eight words that the caller lends for a frame: call 24 finds its frame there, call 23 leaves it there.
+pub enum Frame {
+    Nowhere,
+    Found,
+    Left,
+}
+
+// What a group asks for is what the call asks for.
+fn connect_asks(a: ConnectAsks) -> Asks
+    ensures { λ r. ⌜ asks (a .change) (a .next) (connectAfter (a .at)) ≡ asksJob r ⌝ }
+{
+    let change = a.change;
+    let at = a.at;
+    let next = a.next;
+    Asks {
+        change: change,
+        at: At::Connect(at),
+        next: next,
+    }
+}
+
+fn memory_asks(a: MemoryAsks) -> Asks
+    ensures { λ r. ⌜ asks (a .change) (a .next) (memoryAfter (a .at)) ≡ asksJob r ⌝ }
+{
+    let change = a.change;
+    let at = a.at;
+    let next = a.next;
+    Asks {
+        change: change,
+        at: At::Memory(at),
+        next: next,
+    }
+}
+
+fn core_asks(a: CoreAsks) -> Asks
+    ensures { λ r. ⌜ asks (a .change) (a .next) (coreAfter (a .at)) ≡ asksJob r ⌝ }
+{
+    let change = a.change;
+    let at = a.at;
+    let next = a.next;
+    Asks {
+        change: change,
+        at: At::Core(at),
+        next: next,
+    }
+}
+
+fn fpb_asks(a: FpbAsks) -> Asks
+    ensures { λ r. ⌜ asks (a .change) (a .next) (fpbAfter (a .at)) ≡ asksJob r ⌝ }
+{
+    let change = a.change;
+    let at = a.at;
+    let next = a.next;
+    Asks {
+        change: change,
+        at: At::Fpb(at),
+        next: next,
+    }
+}
+
+fn nrf_asks(a: NrfAsks) -> Asks
+    ensures { λ r. ⌜ asks (a .change) (a .next) (nrfAfter (a .at)) ≡ asksJob r ⌝ }
+{
+    let change = a.change;
+    let at = a.at;
+    let next = a.next;
+    Asks {
+        change: change,
+        at: At::Nrf(at),
+        next: next,
+    }
+}
+
+// What a call does with the outcome of its operation.
+pub fn call_after(p: At, o: Outcome) -> Asks
+    ensures { λ r. ⌜ callAfter p o ≡ asksJob r ⌝ }
+{
+    match p {
+        At::Connect(q) => connect_asks(call_connect::call_after(q, o)),
+        At::Memory(q) => memory_asks(call_memory::call_after(q, o)),
+        At::Core(q) => core_asks(call_core::call_after(q, o)),
+        At::Fpb(q) => fpb_asks(call_fpb::call_after(q, o)),
+        At::Nrf(q) => nrf_asks(call_nrf::call_after(q, o)),
+    }
+}
+
+// What a call asks for first.
+pub fn call_start(c: EngineCall, words: usize, bytes: usize) -> Asks
+    ensures { λ r. ⌜ jobOf c words bytes ≡ asksJob r ⌝ }
+{
+    match c {
+        EngineCall::Connect(q) => connect_asks(call_connect::start(q)),
+        EngineCall::Memory(q) => memory_asks(call_memory::start(q, words, bytes)),
+        EngineCall::Core(q) => core_asks(call_core::start(q)),
+        EngineCall::Fpb(q) => fpb_asks(call_fpb::start(q)),
+        EngineCall::Nrf(q) => nrf_asks(call_nrf::start(q, words)),
+    }
+}
+
+// Whether a call runs over the caller's own words.
+fn owns_words(c: MemoryCall) -> bool
+    ensures { λ r. ⌜ r ≡ lentWords c ⌝ }
+{
+    match c {
+        MemoryCall::SetApsel(_) => false,
+        MemoryCall::ApRegRead(_) => false,
+        MemoryCall::ApRegWrite(_, _) => false,
+        MemoryCall::ReadWord(_) => false,
+        MemoryCall::WriteWord(_, _) => false,
+        MemoryCall::ReadWords(_) => true,
+        MemoryCall::WriteWords(_) => true,
+        MemoryCall::ReadMem(_) => false,
+        MemoryCall::WriteMem(_) => false,
+    }
+}
+
+fn owns_flash(c: NrfCall) -> bool
+    ensures { λ r. ⌜ r ≡ lentFlash c ⌝ }
+{
+    match c {
+        NrfCall::Nrf52ApprotectStatus => false,
+        NrfCall::Nrf52EraseAll(_) => false,
+        NrfCall::Nrf52ErasePage { .. } => false,
+        NrfCall::Nrf52Program { .. } => true,
+        NrfCall::Nrf54ApprotectStatus => false,
+        NrfCall::Nrf54EraseAll(_) => false,
+        NrfCall::Nrf54Program { .. } => true,
+    }
+}
+
+pub fn owns(c: EngineCall) -> bool
+    ensures { λ r. ⌜ r ≡ lent c ⌝ }
+{
+    match c {
+        EngineCall::Connect(_) => false,
+        EngineCall::Memory(q) => owns_words(q),
+        EngineCall::Core(_) => false,
+        EngineCall::Fpb(_) => false,
+        EngineCall::Nrf(q) => owns_flash(q),
+    }
+}
+
+fn core_frame(c: CoreCall) -> Frame
+    ensures { λ r. ⌜ r ≡ coreFrame c ⌝ }
+{
+    match c {
+        CoreCall::DebugEnable => Frame::Nowhere,
+        CoreCall::Halt => Frame::Nowhere,
+        CoreCall::Resume => Frame::Nowhere,
+        CoreCall::Step => Frame::Nowhere,
+        CoreCall::IsHalted => Frame::Nowhere,
+        CoreCall::ReadCoreReg(_) => Frame::Nowhere,
+        CoreCall::WriteCoreReg(_, _) => Frame::Nowhere,
+        CoreCall::RomFuncLookup(_, _) => Frame::Nowhere,
+        CoreCall::StartFunction(_) => Frame::Left,
+        CoreCall::FinishFunction(_) => Frame::Found,
+        CoreCall::CallFunction(_, _) => Frame::Nowhere,
+    }
+}
+
+pub fn frame_for(c: EngineCall) -> Frame
+    ensures { λ r. ⌜ r ≡ frameFor c ⌝ }
+{
+    match c {
+        EngineCall::Connect(_) => Frame::Nowhere,
+        EngineCall::Memory(_) => Frame::Nowhere,
+        EngineCall::Core(q) => core_frame(q),
+        EngineCall::Fpb(_) => Frame::Nowhere,
+        EngineCall::Nrf(_) => Frame::Nowhere,
+    }
+}
+
+// A row with a frame in its first eight places.
+fn row_from(frame: [u32; 8]) -> [u32; 64]
+    ensures { λ r. ⌜ r ≡ sets (replicate 64 0) 0 (frameOf frame) ⌝ }
+{
+    let mut row = [0u32; 64];
+    row[0] = frame[0];
+    row[1] = frame[1];
+    row[2] = frame[2];
+    row[3] = frame[3];
+    row[4] = frame[4];
+    row[5] = frame[5];
+    row[6] = frame[6];
+    row[7] = frame[7];
+    row
+}
+
+// The row that a call runs over: zeros, and the frame that it finds.
+pub fn row_for(f: Frame, frame: [u32; 8]) -> [u32; 64]
+    ensures { λ r. ⌜ r ≡ rowWith f frame ⌝ }
+{
+    match f {
+        Frame::Nowhere => [0u32; 64],
+        Frame::Found => row_from(frame),
+        Frame::Left => [0u32; 64],
+    }
+}
+
+// The frame in a row's first eight words.
+fn frame_of(row: [u32; 64]) -> [u32; 8]
+    ensures { λ r. ⌜ r ≡ frameOf row ⌝ }
+{
+    [
+        row[0],
+        row[1],
+        row[2],
+        row[3],
+        row[4],
+        row[5],
+        row[6],
+        row[7],
+    ]
+}
+
+// A call that failed hands no frame over.
+fn handed_over(ok: bool, left: [u32; 8], before: [u32; 8]) -> [u32; 8]
+    ensures { λ r. ⌜ r ≡ pick ok left before ⌝ }
+{
+    if ok {
+        return left;
+    }
+    before
+}
+
+// The frame after a call.
+pub fn frame_left(f: Frame, ok: bool, row: [u32; 64], before: [u32; 8]) -> [u32; 8]
+    ensures { λ r. ⌜ r ≡ leave f ok row before ⌝ }
+{
+    match f {
+        Frame::Nowhere => before,
+        Frame::Found => before,
+        Frame::Left => handed_over(ok, frame_of(row), before),
+    }
+}

@@ -1,3 +1,0 @@
-pub mod Fpb
-pub mod Breakpoint
-pub mod After

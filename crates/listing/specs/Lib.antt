@@ -1,4 +1,0 @@
-pub mod Text
-pub mod TextLaws
-pub mod Listing
-pub mod Puts

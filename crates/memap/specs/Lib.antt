@@ -1,6 +1,0 @@
-pub mod Action
-pub mod Ports
-pub mod Words
-pub mod Ops
-pub mod Flight
-pub mod CountLaws

@@ -1,8 +1,0 @@
--- The phase `PartWritten` stands for what follows the word's write.
-use borrow.Author.Needs.{needs}
-use Rattle.memory.proofs.patched.Statement.{statement}
-use Rattle.memory.proofs.patched.Tie as tie
-
-pub patched-spec : {M : Type 1} → statement M
-patched-spec = tie.close (tie.spec
-    (λ c κs. search needs) (λ c κs. search needs) (λ c. search needs) (λ c. simp (c .before .minus .ensures) (simp (c .minus2 .ensures))))

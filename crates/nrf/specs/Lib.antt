@@ -1,5 +1,0 @@
-pub mod Nrf52
-pub mod Nrf54
-pub mod Nrf
-pub mod After
-pub mod Runs

@@ -1,0 +1,4 @@
+pub mod Loads
+pub mod Lending
+pub mod Performing
+pub mod Sizes

@@ -1,0 +1,29 @@
+-- Breakpoints at odd addresses (02, h), over any session, whatever is lent and whatever would be answered. Serves no proof.
+use Prim.Native.Nat.{ℕ, _%_}
+use mathlib.Core.Bool.{true, false}
+use mathlib.Core.List.{List, []}
+use mathlib.Core.Path.{_≡_}
+use Rattle.wire.specs.Wire.{ended}
+use Rattle.wire.specs.declared.Answer.{Answer}
+use Rattle.wire.specs.declared.ArmError.the-variants as E
+use Rattle.wire.specs.declared.Outcome.the-variants.{Failed}
+use Rattle.call_fpb.specs.declared.FpbCall.{FpbCall}
+use Rattle.session_rules.specs.Admits.{breakpoint}
+use Rattle.session_rules.specs.Session.{Standing, called, checked}
+use Rattle.session_rules.specs.declared.SessionCall.the-variants as S
+use Rattle.session_rules.specs.declared.Check.the-variants.{Pass}
+
+module _ (s : Standing) (c : FpbCall) (buf : List ℕ) (answers : List Answer) where
+  -- Align: nothing is sent, nothing changes, and the session is open as before
+  odd-refused : s .isOpen ≡ true → breakpoint c % 2 ≡ 1
+      → called s (S.Fpb c) buf answers ≡ record { calls = []; ending = ended (Failed E.Align); buf = buf; after = s }
+  odd-refused o odd = simp (o, odd)
+
+  -- a closed session says NoSession, whatever the address
+  closed-first : s .isOpen ≡ false
+      → called s (S.Fpb c) buf answers ≡ record { calls = []; ending = ended (Failed E.NoSession); buf = buf; after = s }
+  closed-first o = simp o
+
+  -- an even address, of any halfword, is the engine's call
+  even-passes : s .isOpen ≡ true → breakpoint c % 2 ≡ 0 → called s (S.Fpb c) buf answers ≡ checked Pass s (S.Fpb c) buf answers
+  even-passes o even = simp (o, even)

@@ -1,0 +1,4 @@
+pub mod Talk
+pub mod Comes
+pub mod Turns
+pub mod Over

@@ -1,6 +1,0 @@
-pub mod Bytes
-pub mod Wire
-pub mod Transfer
-pub mod Count
-pub mod CountLaws
-pub mod Flight

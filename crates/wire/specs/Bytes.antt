@@ -1,0 +1,49 @@
+-- Copyright 2026 Kenta Ida. SPDX-License-Identifier: Apache-2.0. Ported from arm-debug/src/lib.rs of ciniml/rust-dap.
+-- The bits of the fixed sequences and the bytes that a transport call hands over (000: swd_line_reset to write_targetsel).
+use Prim.Native.Nat.{ℕ, _+_, _-_, _/_, _%_}
+use mathlib.Core.List.{List, [], _∷_, _++_}
+use lib.ListN.{length, replicate, take}
+use Rattle.wire.specs.declared.Pattern.{Pattern}
+use Rattle.wire.specs.declared.Pattern.the-variants as P
+use Rattle.wire.specs.declared.Call.{Call}
+use Rattle.wire.specs.declared.Call.the-variants as C
+
+-- how many bits of its bytes a fixed sequence sends
+abbrev pub patternBits : Pattern → ℕ
+patternBits P.ResetHigh = 51
+patternBits P.ResetIdle = 2
+patternBits P.JtagToSwd = 16
+patternBits P.SwdToDormant = 16
+patternBits P.AlertHigh = 8
+patternBits P.SelectionAlert = 128
+patternBits P.AlertIdle = 4
+patternBits P.SwdActivation = 8
+
+-- its bytes: codes of 16 bits go low byte first
+abbrev pub patternBytes : Pattern → List ℕ
+patternBytes P.ResetHigh = replicate 8 0xFF
+patternBytes P.ResetIdle = 0x00 ∷ []
+patternBytes P.JtagToSwd = 0x9E ∷ 0xE7 ∷ []
+patternBytes P.SwdToDormant = 0xBC ∷ 0xE3 ∷ []
+patternBytes P.AlertHigh = 0xFF ∷ []
+patternBytes P.SelectionAlert =
+    0x92 ∷ 0xF3 ∷ 0x09 ∷ 0x62 ∷ 0x95 ∷ 0x2D ∷ 0x85 ∷ 0x86 ∷ 0xE9 ∷ 0xAF ∷ 0xDD ∷ 0xE3 ∷ 0xA2 ∷ 0x0E ∷ 0xBC ∷ 0x19 ∷ []
+patternBytes P.AlertIdle = 0x00 ∷ []
+patternBytes P.SwdActivation = 0x1A ∷ []
+
+-- the bytes of a word, lowest first
+abbrev pub leBytes : ℕ → List ℕ
+leBytes w = w % 256 ∷ w / 256 % 256 ∷ w / 256 / 256 % 256 ∷ w / 256 / 256 / 256 % 256 ∷ []
+
+-- the bytes that a transport call hands over
+abbrev pub handed : Call → List ℕ
+handed (C.Transfer request word) = []
+handed C.Connect = []
+handed (C.Sequence p) = patternBytes p
+handed (C.Pins output select wait) = []
+handed (C.WriteBits bits word) = take ((bits + 7) / 8) (leBytes word)
+handed C.OutputEnable = []
+
+-- as they stand in an array of 16
+abbrev pub padded : List ℕ → List ℕ
+padded bs = bs ++ replicate (16 - length bs) 0

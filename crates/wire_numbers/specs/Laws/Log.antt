@@ -1,0 +1,36 @@
+-- A transport call is what its number in the log says, as its fields are numbers of 8 and 32 bits. Serves the proofs only.
+use Prim.Native.Nat.{ℕ, _+_, _*_, _/_, _%_, _<_, _≤_}
+use mathlib.Core.Path.{_≡_}
+use native.Mathlib.Omega.{arith}
+use Rattle.wire.specs.declared.Pattern.{Pattern}
+use Rattle.wire.specs.declared.Call.the-variants as C
+use Rattle.wire_numbers.specs.Log.{patternAt, callOf}
+
+module _ (a b w x : ℕ) (ha : a < 256) (hb : b < 256) (hw : w < 0x100000000) where
+  pub reads-transfer : x ≡ b * 0x100000000 + w → callOf x ≡ C.Transfer b w
+  reads-transfer h =
+      let k : x / 0x1000000000000 ≡ 0 = omega arith in
+      let r : x / 0x100000000 % 256 ≡ b = omega arith in
+      let v : x % 0x100000000 ≡ w = omega arith in
+      simp (k, r, v)
+
+  pub reads-pins : x ≡ 0x3000000000000 + (a * 0x10000000000 + (b * 0x100000000 + w)) → callOf x ≡ C.Pins a b w
+  reads-pins h =
+      let k : x / 0x1000000000000 ≡ 3 = omega arith in
+      let o : x / 0x10000000000 % 256 ≡ a = omega arith in
+      let s : x / 0x100000000 % 256 ≡ b = omega arith in
+      let v : x % 0x100000000 ≡ w = omega arith in
+      simp (k, o, s, v)
+
+  pub reads-bits : x ≡ 0x4000000000000 + (b * 0x100000000 + w) → callOf x ≡ C.WriteBits b w
+  reads-bits h =
+      let k : x / 0x1000000000000 ≡ 4 = omega arith in
+      let n : x / 0x100000000 % 256 ≡ b = omega arith in
+      let v : x % 0x100000000 ≡ w = omega arith in
+      simp (k, n, v)
+
+pub reads-sequence : (n : ℕ) (p : Pattern) → n ≤ 7 → patternAt n ≡ p → callOf (0x2000000000000 + n) ≡ C.Sequence p
+reads-sequence n p h e =
+    let k : (0x2000000000000 + n) / 0x1000000000000 ≡ 2 = omega arith in
+    let v : (0x2000000000000 + n) % 0x100000000 ≡ n = omega arith in
+    simp (k, v, e)

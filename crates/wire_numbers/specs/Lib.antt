@@ -1,0 +1,4 @@
+pub mod Results
+pub mod Numbers
+pub mod Log
+pub mod Laws

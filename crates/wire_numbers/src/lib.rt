@@ -1,0 +1,417 @@
+// Transport calls, answers and endings as numbers: what a step answers with, and what lists of numbers hold.
+ghost use mathlib.Core.Path.{_≡_};
+ghost use Prim.Native.Nat.{_+_, _/_, _≤_, min};
+ghost use lib.ListN.{take, set};
+ghost use Rattle.wire.specs.Bytes.{handed, padded, leBytes};
+ghost use Rattle.wire_numbers.specs.Results.{errorNumber, errorValue, resultOf};
+ghost use Rattle.wire_numbers.specs.Numbers.{numbersOf};
+ghost use Rattle.wire_numbers.specs.Log.{answerOf, patternNo, patternAt, codeOf, callOf};
+use wire::Answer;
+use wire::ArmError;
+use wire::Call;
+use wire::Outcome;
+use wire::Pattern;
+
+// A transport call as numbers. `kind` is the letter of a listing: T, C, Q, P, B or O; `word` is T's data or P's wait;
+// `len` bytes are handed over.
+pub struct TransportCall {
+    pub kind: u8,
+    pub request: u8,
+    pub output: u8,
+    pub select: u8,
+    pub bits: u8,
+    pub len: u8,
+    pub word: u32,
+}
+
+// How a call ended: 01's result number and value.
+pub struct CallEnding {
+    pub number: u8,
+    pub value: u32,
+}
+
+fn error_ending(e: ArmError) -> CallEnding
+    ensures { λ x. ⌜ x ≡ record { number = errorNumber e; value = errorValue e } ⌝ }
+{
+    match e {
+        ArmError::Transfer(ack) => CallEnding {
+            number: 1,
+            value: ack as u32,
+        },
+        ArmError::Wait => CallEnding {
+            number: 2,
+            value: 0,
+        },
+        ArmError::NotSupported => CallEnding {
+            number: 3,
+            value: 0,
+        },
+        ArmError::PowerUpTimeout => CallEnding {
+            number: 4,
+            value: 0,
+        },
+        ArmError::CoreTimeout => CallEnding {
+            number: 5,
+            value: 0,
+        },
+        ArmError::NoTarget => CallEnding {
+            number: 6,
+            value: 0,
+        },
+        ArmError::Internal => CallEnding {
+            number: 7,
+            value: 0,
+        },
+        ArmError::Range => CallEnding {
+            number: 8,
+            value: 0,
+        },
+        ArmError::Align => CallEnding {
+            number: 9,
+            value: 0,
+        },
+        ArmError::NoSession => CallEnding {
+            number: 10,
+            value: 0,
+        },
+        ArmError::TableEnd => CallEnding {
+            number: 12,
+            value: 0,
+        },
+    }
+}
+
+pub fn result_of(o: Outcome) -> CallEnding
+    ensures { λ x. ⌜ x ≡ resultOf o ⌝ }
+{
+    match o {
+        Outcome::Value(v) => CallEnding {
+            number: 0,
+            value: v,
+        },
+        Outcome::Failed(e) => error_ending(e),
+    }
+}
+
+// The bits of a fixed sequence and how many bytes are handed over with it.
+fn sequence_numbers(p: Pattern) -> TransportCall
+    ensures { λ x. ⌜ x ≡ numbersOf (Call.Sequence p) ⌝ }
+{
+    match p {
+        Pattern::ResetHigh => TransportCall {
+            kind: 0x51,
+            request: 0,
+            output: 0,
+            select: 0,
+            bits: 51,
+            len: 8,
+            word: 0,
+        },
+        Pattern::ResetIdle => TransportCall {
+            kind: 0x51,
+            request: 0,
+            output: 0,
+            select: 0,
+            bits: 2,
+            len: 1,
+            word: 0,
+        },
+        Pattern::JtagToSwd => TransportCall {
+            kind: 0x51,
+            request: 0,
+            output: 0,
+            select: 0,
+            bits: 16,
+            len: 2,
+            word: 0,
+        },
+        Pattern::SwdToDormant => TransportCall {
+            kind: 0x51,
+            request: 0,
+            output: 0,
+            select: 0,
+            bits: 16,
+            len: 2,
+            word: 0,
+        },
+        Pattern::AlertHigh => TransportCall {
+            kind: 0x51,
+            request: 0,
+            output: 0,
+            select: 0,
+            bits: 8,
+            len: 1,
+            word: 0,
+        },
+        Pattern::SelectionAlert => TransportCall {
+            kind: 0x51,
+            request: 0,
+            output: 0,
+            select: 0,
+            bits: 128,
+            len: 16,
+            word: 0,
+        },
+        Pattern::AlertIdle => TransportCall {
+            kind: 0x51,
+            request: 0,
+            output: 0,
+            select: 0,
+            bits: 4,
+            len: 1,
+            word: 0,
+        },
+        Pattern::SwdActivation => TransportCall {
+            kind: 0x51,
+            request: 0,
+            output: 0,
+            select: 0,
+            bits: 8,
+            len: 1,
+            word: 0,
+        },
+    }
+}
+
+// How many bytes hold so many bits, at most the 4 of a word.
+fn bytes_for(bits: u8) -> u8
+    ensures { λ r. ⌜ r ≡ min ((bits + 7) / 8) 4 ⌝ }
+{
+    if 24 < bits {
+        return 4;
+    }
+    (bits + 7) / 8
+}
+
+pub fn numbers_of(c: Call) -> TransportCall
+    ensures { λ x. ⌜ x ≡ numbersOf c ⌝ }
+{
+    match c {
+        Call::Transfer { request, word } => TransportCall {
+            kind: 0x54,
+            request: request,
+            output: 0,
+            select: 0,
+            bits: 0,
+            len: 0,
+            word: word,
+        },
+        Call::Connect => TransportCall {
+            kind: 0x43,
+            request: 0,
+            output: 0,
+            select: 0,
+            bits: 0,
+            len: 0,
+            word: 0,
+        },
+        Call::Sequence(p) => sequence_numbers(p),
+        Call::Pins {
+            output,
+            select,
+            wait_us,
+        } => TransportCall {
+            kind: 0x50,
+            request: 0,
+            output: output,
+            select: select,
+            bits: 0,
+            len: 0,
+            word: wait_us,
+        },
+        Call::WriteBits { bits, word } => {
+            let n = bytes_for(bits);
+            TransportCall {
+                kind: 0x42,
+                request: 0,
+                output: 0,
+                select: 0,
+                bits: bits,
+                len: n,
+                word: word,
+            }
+        }
+        Call::OutputEnable => TransportCall {
+            kind: 0x4F,
+            request: 0,
+            output: 0,
+            select: 0,
+            bits: 0,
+            len: 0,
+            word: 0,
+        },
+    }
+}
+
+// The first bytes of a word, as many as hold its bits.
+fn bits_bytes(bits: u8, w: u32) -> [u8; 16]
+    ensures { λ r. ⌜ r ≡ padded (take ((bits + 7) / 8) (leBytes w)) ⌝ }
+{
+    let n = bytes_for(bits);
+    let b0 = (w % 256) as u8;
+    let b1 = (w / 256 % 256) as u8;
+    let b2 = (w / 256 / 256 % 256) as u8;
+    let b3 = (w / 256 / 256 / 256 % 256) as u8;
+    if n == 0 {
+        return [0u8; 16];
+    }
+    if n == 1 {
+        return [b0, 0, 0, 0, 0, 0, 0, 0, 0, 0, 0, 0, 0, 0, 0, 0];
+    }
+    if n == 2 {
+        return [b0, b1, 0, 0, 0, 0, 0, 0, 0, 0, 0, 0, 0, 0, 0, 0];
+    }
+    if n == 3 {
+        return [b0, b1, b2, 0, 0, 0, 0, 0, 0, 0, 0, 0, 0, 0, 0, 0];
+    }
+    [b0, b1, b2, b3, 0, 0, 0, 0, 0, 0, 0, 0, 0, 0, 0, 0]
+}
+
+pub fn bytes_of(c: Call) -> [u8; 16]
+    ensures { λ r. ⌜ r ≡ padded (handed c) ⌝ }
+{
+    match c {
+        Call::Transfer {
+            request: _,
+            word: _,
+        } => [0u8; 16],
+        Call::Connect => [0u8; 16],
+        Call::Sequence(p) => wire::pattern_bytes(p),
+        Call::Pins {
+            output: _,
+            select: _,
+            wait_us: _,
+        } => [0u8; 16],
+        Call::WriteBits { bits, word } => bits_bytes(bits, word),
+        Call::OutputEnable => [0u8; 16],
+    }
+}
+
+// The answer that a number stands for. An ack is a byte: of SwdError's value the lowest 8 bits count.
+pub fn answer_of(x: u64) -> Answer
+    ensures { λ r. ⌜ r ≡ answerOf x ⌝ }
+{
+    let code = x / 0x100000000;
+    if code == 0 {
+        return Answer::Good((x % 0x100000000) as u32);
+    }
+    if code == 1 {
+        return Answer::SwdError((x % 256) as u8);
+    }
+    if code == 2 {
+        return Answer::NotSupported;
+    }
+    Answer::Other
+}
+
+fn pattern_no(p: Pattern) -> u64
+    ensures { λ x. ⌜ (x ≡ patternNo p) × (x ≤ 7) × (patternAt x ≡ p) ⌝ }
+{
+    match p {
+        Pattern::ResetHigh => 0,
+        Pattern::ResetIdle => 1,
+        Pattern::JtagToSwd => 2,
+        Pattern::SwdToDormant => 3,
+        Pattern::AlertHigh => 4,
+        Pattern::SelectionAlert => 5,
+        Pattern::AlertIdle => 6,
+        Pattern::SwdActivation => 7,
+    }
+}
+
+// The number of a transport call in the log.
+fn code_of(c: Call) -> u64
+    ensures { λ x. ⌜ (x ≡ codeOf c) × (callOf x ≡ c) ⌝ }
+{
+    match c {
+        Call::Transfer { request, word } => (request as u64) * 0x100000000 + (word as u64),
+        Call::Connect => 0x1000000000000,
+        Call::Sequence(p) => {
+            let n = pattern_no(p);
+            0x2000000000000 + n
+        }
+        Call::Pins {
+            output,
+            select,
+            wait_us,
+        } => 0x3000000000000
+            + ((output as u64) * 0x10000000000
+                + ((select as u64) * 0x100000000 + (wait_us as u64))),
+        Call::WriteBits { bits, word } => 0x4000000000000
+            + ((bits as u64) * 0x100000000 + (word as u64)),
+        Call::OutputEnable => 0x5000000000000,
+    }
+}
+
+pub fn note(log: &mut [u64], i: u32, c: Call)
+    ensures { λ _. ⌜ (now (log .exit) ≡ set (now (log .entry)) i (codeOf c)) × (callOf (codeOf c) ≡ c) ⌝ }
+{
+    let x = code_of(c);
+    let j = i as usize;
+    if j < log.len() {
+        log[j] = x;
+    }
+}
+
+fn pattern_at(n: u64) -> Pattern
+    ensures { λ p. ⌜ p ≡ patternAt n ⌝ }
+{
+    if n == 0 {
+        return Pattern::ResetHigh;
+    }
+    if n == 1 {
+        return Pattern::ResetIdle;
+    }
+    if n == 2 {
+        return Pattern::JtagToSwd;
+    }
+    if n == 3 {
+        return Pattern::SwdToDormant;
+    }
+    if n == 4 {
+        return Pattern::AlertHigh;
+    }
+    if n == 5 {
+        return Pattern::SelectionAlert;
+    }
+    if n == 6 {
+        return Pattern::AlertIdle;
+    }
+    Pattern::SwdActivation
+}
+
+// The transport call that a number of the log stands for.
+pub fn call_of(x: u64) -> Call
+    ensures { λ c. ⌜ c ≡ callOf x ⌝ }
+{
+    let kind = x / 0x1000000000000;
+    let word = (x % 0x100000000) as u32;
+    let a = (x / 0x100000000 % 256) as u8;
+    if kind == 0 {
+        return Call::Transfer {
+            request: a,
+            word: word,
+        };
+    }
+    if kind == 1 {
+        return Call::Connect;
+    }
+    if kind == 2 {
+        let p = pattern_at(x % 0x100000000);
+        return Call::Sequence(p);
+    }
+    if kind == 3 {
+        return Call::Pins {
+            output: (x / 0x10000000000 % 256) as u8,
+            select: a,
+            wait_us: word,
+        };
+    }
+    if kind == 4 {
+        return Call::WriteBits {
+            bits: a,
+            word: word,
+        };
+    }
+    Call::OutputEnable
+}
