@@ -84,12 +84,12 @@ fn fpb_comp_value(addr: u32, rev: u32) -> CompValue
     ensures { λ r. ⌜ r ≡ fpbCompValue addr rev ⌝ }
 {
     if 1 <= rev {
-        return CompValue::Some(addr - addr % 2 + call_fpb::COMP_ENABLE);
+        return CompValue::Some(addr - addr % 2 + fpb::COMP_ENABLE);
     }
     if 0x20000000 <= addr {
         return CompValue::None;
     }
-    CompValue::Some((1 + addr / 2 % 2) * 0x40000000 + (addr - addr % 4) + call_fpb::COMP_ENABLE)
+    CompValue::Some((1 + addr / 2 % 2) * 0x40000000 + (addr - addr % 4) + fpb::COMP_ENABLE)
 }
 
 // The number of the comparator that `left` of n are to come from.
@@ -106,7 +106,7 @@ fn minus(n: u8, left: u8) -> u8
 fn comparator_at(i: u8) -> u32
     ensures { λ r. ⌜ r ≡ comparator i ⌝ }
 {
-    call_fpb::FP_COMP0 + 4 * (i as u32)
+    fpb::FP_COMP0 + 4 * (i as u32)
 }
 
 // The call ends.
@@ -140,8 +140,8 @@ fn enable(ctrl: u32, value: u32) -> FpbAsks
         return ended(Outcome::Value(0));
     }
     let op = Op::WriteWord {
-        addr: call_fpb::FP_CTRL,
-        word: ctrl - ctrl % 4 + call_fpb::CTRL_KEY + call_fpb::CTRL_ENABLE,
+        addr: fpb::FP_CTRL,
+        word: ctrl - ctrl % 4 + fpb::CTRL_KEY + fpb::CTRL_ENABLE,
     };
     doing(FpbAt::Enable { value: value, n: n }, op)
 }
@@ -234,7 +234,7 @@ fn revision_on(clears: bool, addr: u32, ctrl: u32) -> FpbAsks
                 value: value,
             },
             Op::ReadWord {
-                addr: call_fpb::FP_CTRL,
+                addr: fpb::FP_CTRL,
             },
         ),
     }
@@ -315,7 +315,7 @@ pub fn start(c: FpbCall) -> FpbAsks
         FpbCall::HwBreakpointSet(addr) => doing(
             FpbAt::SetCtrl(addr),
             Op::ReadWord {
-                addr: call_fpb::FP_CTRL,
+                addr: fpb::FP_CTRL,
             },
         ),
         FpbCall::HwBreakpointClear(addr) => doing(
@@ -324,7 +324,7 @@ pub fn start(c: FpbCall) -> FpbAsks
                 addr: addr,
             },
             Op::ReadWord {
-                addr: call_fpb::FP_CTRL,
+                addr: fpb::FP_CTRL,
             },
         ),
         FpbCall::HwBreakpointAt(addr) => doing(
@@ -333,7 +333,7 @@ pub fn start(c: FpbCall) -> FpbAsks
                 addr: addr,
             },
             Op::ReadWord {
-                addr: call_fpb::FP_CTRL,
+                addr: fpb::FP_CTRL,
             },
         ),
     }
