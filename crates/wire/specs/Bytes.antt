@@ -2,7 +2,7 @@
 -- The bits of the fixed sequences and the bytes that a transport call hands over (000: swd_line_reset to write_targetsel).
 use Prim.Native.Nat.{ℕ, _+_, _-_, _/_, _%_}
 use mathlib.Core.List.{List, [], _∷_, _++_}
-use lib.ListN.{length, replicate, take}
+use lib.ListN.{length, getD, replicate, take}
 use Rattle.wire.specs.declared.Pattern.{Pattern}
 use Rattle.wire.specs.declared.Pattern.the-variants as P
 use Rattle.wire.specs.declared.Call.{Call}
@@ -47,3 +47,20 @@ handed C.OutputEnable = []
 -- as they stand in an array of 16
 abbrev pub padded : List ℕ → List ℕ
 padded bs = bs ++ replicate (16 - length bs) 0
+
+-- the fixed sequences by number
+abbrev pub patternNo : Pattern → ℕ
+patternNo P.ResetHigh = 0
+patternNo P.ResetIdle = 1
+patternNo P.JtagToSwd = 2
+patternNo P.SwdToDormant = 3
+patternNo P.AlertHigh = 4
+patternNo P.SelectionAlert = 5
+patternNo P.AlertIdle = 6
+patternNo P.SwdActivation = 7
+
+abbrev pub patterns : List Pattern
+patterns = P.ResetHigh ∷ P.ResetIdle ∷ P.JtagToSwd ∷ P.SwdToDormant ∷ P.AlertHigh ∷ P.SelectionAlert ∷ P.AlertIdle ∷ []
+
+abbrev pub patternAt : ℕ → Pattern
+patternAt n = getD patterns n P.SwdActivation

@@ -2,14 +2,13 @@
 use Prim.Native.Nat.{ℕ, _≤_}
 use mathlib.Core.List.{List, _++_}
 use mathlib.Core.Path.{_≡_}
-use lib.ListN.{replicate}
+use lib.ListN.{getD, replicate}
 use Rattle.wire.specs.declared.Call.{Call}
 use Rattle.wire.specs.declared.Call.the-variants as C
-use Rattle.wire.specs.declared.Transfer.{Transfer}
 
--- the count that it holds, of the times that it was made, is at most 65
-abbrev pub Counted : Transfer → Type 0
-Counted t = t .tries ≤ 65
+-- the count that its words hold, of the times that it was made, is at most 65
+abbrev pub Counted : List ℕ → Type 0
+Counted t = getD t 1 0 ≤ 65
 
 -- at most n times the call c, and then at most one ABORT
 pub record Tried (n : ℕ) (c : Call) (calls : List Call) : Type 0 where

@@ -4,13 +4,14 @@
 
 // Transport calls and their answers, what the engine remembers, and one transfer with its WAIT retries.
 ghost use mathlib.Core.Path.{_≡_};
-ghost use lib.ListN.{length};
+ghost use Prim.Native.Nat.{_%_};
 ghost use Rattle.wire.specs.declared.Outcome.{Outcome};
-ghost use Rattle.wire.specs.Bytes.{patternBits, patternBytes, padded, handed};
+ghost use Rattle.wire.specs.declared.Went.the-variants.{Again};
+ghost use Rattle.wire.specs.Bytes.{patternNo, patternAt, patternBytes, padded};
 ghost use Rattle.wire.specs.Wire.{Wire, Memory, follow};
-ghost use Rattle.wire.specs.Transfer.{transfer, raw};
+ghost use Rattle.wire.specs.Transfer.{raw, rawOutcome};
 ghost use Rattle.wire.specs.Count.{Counted};
-ghost use Rattle.wire.specs.Laws.Flight.{transferTree, wentTree, dueOf, WentCounted};
+ghost use Rattle.wire.specs.Laws.Flight.{Sized, Trying, transferOf, transferTree, begun, begunRaw, aborts, waits, answered, Goes};
 
 // What the engine remembers of the target. SELECT 0xFFFFFFFF means unknown.
 pub struct Remembered {
@@ -34,7 +35,7 @@ pub enum Pattern {
 // A transport call, as `DapTransport` has them.
 pub enum Call {
     Transfer {
-        request: u8,
+        request: u32,
         word: u32,
     },
     Connect,
@@ -147,123 +148,237 @@ pub fn pattern_bytes(p: Pattern) -> [u8; 16]
     }
 }
 
-// What is in flight: a try of a transfer, the ABORT after it, whose answer is ignored, or a call that is no transfer.
-pub enum Mode {
-    Trying,
-    Aborting,
-    Raw,
-}
+// The words of a transport call in flight, which its owner lends and which are updated in place.
+// MODE: a try of a transfer, the ABORT after it, whose answer is ignored, or a call that is no transfer.
+const MODE: usize = 0;
+
+// How often the call was made, this time included.
+const TRIES: usize = 1;
+
+// The transport call: its kind, a byte and a word; of `swj_pins` another byte too.
+const KIND: usize = 2;
+
+const BYTE: usize = 3;
+
+const WORD: usize = 4;
+
+const OTHER: usize = 5;
+
+// What the call fails with after its ABORT: the kind of the error, and the ack.
+const ERROR: usize = 5;
+
+const ACK: usize = 6;
+
+// The kinds of transport calls.
+const TRANSFER: u32 = 0;
+
+const CONNECT: u32 = 1;
+
+const SEQUENCE: u32 = 2;
+
+const PINS: u32 = 3;
+
+const WRITE_BITS: u32 = 4;
+
+const OUTPUT_ENABLE: u32 = 5;
+
+const TRYING: u32 = 0;
+
+const ABORTING: u32 = 1;
+
+const RAW: u32 = 2;
 
 // A transfer is tried so often: the first time and the Rust's 64 retries.
-const TRIES: u8 = 65;
-
-// A transport call in flight. `tries`: how often it was made, this time included; `error`: what the call fails with after its ABORT.
-pub struct Transfer {
-    pub call: Call,
-    pub mode: Mode,
-    pub tries: u8,
-    pub error: ArmError,
-}
+const MOST: u32 = 65;
 
 pub enum Went {
-    Again(Transfer),
+    Again,
     Ended(Outcome),
 }
 
-// A transfer: WAIT repeats it, at most 64 times.
-pub fn begin(request: u8, word: u32) -> Transfer
-    ensures { λ r. ⌜ ((m : Memory) (k : Outcome → Wire) → transfer m request word k ≡ transferTree m r k) ⌝ }
-    ensures counted { λ r. ⌜ Counted r ⌝ }
+// A byte as a word: the lowest eight bits are all of it.
+fn wide(x: u8) -> u32
+    ensures { λ r. ⌜ (r ≡ x) × (r % 256 ≡ x) ⌝ }
 {
-    Transfer {
-        call: Call::Transfer {
-            request: request,
-            word: word,
-        },
-        mode: Mode::Trying,
-        tries: 1,
-        error: ArmError::Wait,
+    x as u32
+}
+
+// A transfer: WAIT repeats it, at most 64 times.
+pub fn begin(t: &mut [u32; 7], request: u32, word: u32)
+    ensures { λ _. ⌜ now (t .exit) ≡ begun request word (now (t .entry)) ⌝ }
+{
+    t[MODE] = TRYING;
+    t[TRIES] = 1;
+    t[KIND] = TRANSFER;
+    t[BYTE] = request;
+    t[WORD] = word;
+}
+
+// A transport call that is made once, with no ABORT after an error.
+fn once(t: &mut [u32; 7], kind: u32, byte: u32, other: u32, word: u32)
+    ensures { λ _. ⌜ now (t .exit) ≡ begunRaw kind byte other word (now (t .entry)) ⌝ }
+{
+    t[MODE] = RAW;
+    t[TRIES] = 1;
+    t[KIND] = kind;
+    t[BYTE] = byte;
+    t[WORD] = word;
+    t[OTHER] = other;
+}
+
+// The fixed sequences by number.
+fn pattern_no(p: Pattern) -> u32
+    ensures { λ r. ⌜ r ≡ patternNo p ⌝ }
+{
+    match p {
+        Pattern::ResetHigh => 0,
+        Pattern::ResetIdle => 1,
+        Pattern::JtagToSwd => 2,
+        Pattern::SwdToDormant => 3,
+        Pattern::AlertHigh => 4,
+        Pattern::SelectionAlert => 5,
+        Pattern::AlertIdle => 6,
+        Pattern::SwdActivation => 7,
     }
 }
 
 // A transport call that is made once, with no ABORT after an error.
-pub fn begin_raw(c: Call) -> Transfer
-    ensures { λ r. ⌜ ((m : Memory) (k : Outcome → Wire) → raw m c k ≡ transferTree m r k) ⌝ }
-    ensures counted { λ r. ⌜ Counted r ⌝ }
+pub fn begin_raw(t: &mut [u32; 7], c: Call)
+    ensures { λ _. ⌜ (Sized (now (t .entry)) → ((m : Memory) (k : Outcome → Wire) → raw m c k ≡ transferTree m (transferOf (now (t .exit))) k) × Sized (now (t .exit)) × Counted (now (t .exit))) ⌝ }
 {
-    Transfer {
-        call: c,
-        mode: Mode::Raw,
-        tries: 1,
-        error: ArmError::Wait,
+    match c {
+        Call::Transfer { request, word } => once(t, TRANSFER, request, 0, word),
+        Call::Connect => once(t, CONNECT, 0, 0, 0),
+        Call::Sequence(p) => once(t, SEQUENCE, pattern_no(p), 0, 0),
+        Call::Pins {
+            output,
+            select,
+            wait_us,
+        } => once(t, PINS, wide(output), wide(select), wait_us),
+        Call::WriteBits { bits, word } => once(t, WRITE_BITS, wide(bits), 0, word),
+        Call::OutputEnable => once(t, OUTPUT_ENABLE, 0, 0, 0),
     }
 }
 
-// The transport call that is due while a transfer is in flight: ABORT after an error.
-pub fn due(t: Transfer) -> Call
-    ensures { λ c. ⌜ c ≡ dueOf (t .mode) t ⌝ }
+// The ABORT that clears the sticky errors is in flight, and then the call fails with the error.
+fn abort(t: &mut [u32; 7], error: u32, ack: u32) -> Went
+    ensures { λ r. ⌜ (r ≡ Again) × (now (t .exit) ≡ aborts error ack (now (t .entry))) ⌝ }
 {
-    let mode = t.mode;
-    let c = t.call;
-    match mode {
-        Mode::Trying => c,
-        Mode::Aborting => Call::Transfer {
-            request: 0,
-            word: 0x1E,
-        },
-        Mode::Raw => c,
+    t[MODE] = ABORTING;
+    t[TRIES] = 1;
+    t[KIND] = TRANSFER;
+    t[BYTE] = 0;
+    t[WORD] = 0x1E;
+    t[ERROR] = error;
+    t[ACK] = ack;
+    Went::Again
+}
+
+// The error that the call fails with after its ABORT.
+fn error_of(t: &[u32; 7]) -> ArmError
+    ensures { λ r. ⌜ r ≡ transferOf (now (t .entry)) .error ⌝ }
+{
+    let e = t[ERROR];
+    let ack = t[ACK];
+    match e {
+        0 => ArmError::Transfer((ack % 256) as u8),
+        1 => ArmError::NotSupported,
+        _ => ArmError::Internal,
     }
 }
 
-// What a transport call in flight does with an answer. Whatever count it finds, it leaves none above 65.
-pub fn transfer_step(t: Transfer, a: Answer) -> Went
-    ensures { λ r. ⌜ ((m : Memory) (k : Outcome → Wire) → follow (transferTree m t k) a ≡ wentTree m r k) ⌝ }
-    ensures counted { λ r. ⌜ WentCounted r ⌝ }
+// WAIT: the same call once more, or no more. Whatever count it finds, it leaves none above 65.
+fn waited(t: &mut [u32; 7]) -> Went
+    ensures { λ r. ⌜ (Trying (now (t .entry)) → Goes (waits (now (t .entry))) r (now (t .exit))) ⌝ }
 {
-    let e = t.error;
-    let c = t.call;
-    let mode = t.mode;
-    match mode {
-        Mode::Aborting => Went::Ended(Outcome::Failed(e)),
-        Mode::Raw => match a {
-            Answer::Good(v) => Went::Ended(Outcome::Value(v)),
-            Answer::SwdError(ack) => Went::Ended(Outcome::Failed(ArmError::Transfer(ack))),
-            Answer::NotSupported => Went::Ended(Outcome::Failed(ArmError::NotSupported)),
-            Answer::Other => Went::Ended(Outcome::Failed(ArmError::Internal)),
-        },
-        Mode::Trying => match a {
-            Answer::Good(v) => Went::Ended(Outcome::Value(v)),
-            Answer::SwdError(ack) => {
-                if ack == 2 {
-                    if TRIES <= t.tries {
-                        return Went::Ended(Outcome::Failed(ArmError::Wait));
-                    }
-                    return Went::Again(Transfer {
-                        call: c,
-                        mode: Mode::Trying,
-                        tries: t.tries + 1,
-                        error: e,
-                    });
-                }
-                Went::Again(Transfer {
-                    call: c,
-                    mode: Mode::Aborting,
-                    tries: 1,
-                    error: ArmError::Transfer(ack),
-                })
+    let tries = t[TRIES];
+    if MOST <= tries {
+        return Went::Ended(Outcome::Failed(ArmError::Wait));
+    }
+    t[TRIES] = tries + 1;
+    Went::Again
+}
+
+// What a try of a transfer does with an answer.
+fn tried(t: &mut [u32; 7], a: Answer) -> Went
+    ensures { λ r. ⌜ (Trying (now (t .entry)) → Goes (answered (now (t .entry)) a) r (now (t .exit))) ⌝ }
+{
+    match a {
+        Answer::Good(v) => Went::Ended(Outcome::Value(v)),
+        Answer::SwdError(ack) => {
+            if ack == 2 {
+                return waited(t);
             }
-            Answer::NotSupported => Went::Again(Transfer {
-                call: c,
-                mode: Mode::Aborting,
-                tries: 1,
-                error: ArmError::NotSupported,
-            }),
-            Answer::Other => Went::Again(Transfer {
-                call: c,
-                mode: Mode::Aborting,
-                tries: 1,
-                error: ArmError::Internal,
-            }),
+            abort(t, 0, wide(ack))
+        }
+        Answer::NotSupported => abort(t, 1, 0),
+        Answer::Other => abort(t, 2, 0),
+    }
+}
+
+// What a call that is no transfer comes to.
+fn raw_outcome(a: Answer) -> Outcome
+    ensures { λ r. ⌜ r ≡ rawOutcome a ⌝ }
+{
+    match a {
+        Answer::Good(v) => Outcome::Value(v),
+        Answer::SwdError(ack) => Outcome::Failed(ArmError::Transfer(ack)),
+        Answer::NotSupported => Outcome::Failed(ArmError::NotSupported),
+        Answer::Other => Outcome::Failed(ArmError::Internal),
+    }
+}
+
+// What a transport call in flight does with an answer.
+pub fn transfer_step(t: &mut [u32; 7], a: Answer) -> Went
+    ensures { λ r. ⌜ (Sized (now (t .entry)) → Goes (λ m k. follow (transferTree m (transferOf (now (t .entry))) k) a) r (now (t .exit))) ⌝ }
+{
+    let mode = t[MODE];
+    match mode {
+        0 => tried(t, a),
+        1 => Went::Ended(Outcome::Failed(error_of(t))),
+        _ => Went::Ended(raw_outcome(a)),
+    }
+}
+
+fn pattern_at(n: u32) -> Pattern
+    ensures { λ r. ⌜ r ≡ patternAt n ⌝ }
+{
+    match n {
+        0 => Pattern::ResetHigh,
+        1 => Pattern::ResetIdle,
+        2 => Pattern::JtagToSwd,
+        3 => Pattern::SwdToDormant,
+        4 => Pattern::AlertHigh,
+        5 => Pattern::SelectionAlert,
+        6 => Pattern::AlertIdle,
+        _ => Pattern::SwdActivation,
+    }
+}
+
+// The transport call that is in flight.
+pub fn due(t: &[u32; 7]) -> Call
+    ensures { λ c. ⌜ c ≡ transferOf (now (t .entry)) .call ⌝ }
+{
+    let kind = t[KIND];
+    let byte = t[BYTE];
+    let other = t[OTHER];
+    let word = t[WORD];
+    match kind {
+        0 => Call::Transfer {
+            request: byte,
+            word: word,
         },
+        1 => Call::Connect,
+        2 => Call::Sequence(pattern_at(byte)),
+        3 => Call::Pins {
+            output: (byte % 256) as u8,
+            select: (other % 256) as u8,
+            wait_us: word,
+        },
+        4 => Call::WriteBits {
+            bits: (byte % 256) as u8,
+            word: word,
+        },
+        _ => Call::OutputEnable,
     }
 }
