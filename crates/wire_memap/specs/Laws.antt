@@ -1,2 +1,2 @@
+pub mod Doing
 pub mod Flight
-pub mod Count

@@ -4,75 +4,20 @@
 
 // Registers of the two ports with the SELECT and CSW caches, words and runs of words, each transfer by transfer.
 ghost use mathlib.Core.Path.{_≡_};
-ghost use mathlib.Core.Bool.{true};
-ghost use mathlib.Core.List.{List};
-ghost use Prim.Native.Nat.{ℕ, _-_};
+ghost use Prim.Native.Nat.{_-_, _<_};
 ghost use lib.ListN.{set, getD};
-ghost use Rattle.wire.specs.Wire.{Memory, memoryOf, follow};
-ghost use Rattle.wire.specs.Transfer.{transfer, raw};
-ghost use Rattle.wire.specs.Count.{Counted};
-ghost use Rattle.wire.specs.Laws.Flight.{transferTree};
-ghost use Rattle.wire_memap.specs.Action.{Then, transferring};
-ghost use Rattle.wire_memap.specs.Ports.{apAccess, cswKnown, DRW};
-ghost use Rattle.wire_memap.specs.Words.{place, pull, push};
+ghost use Rattle.wire.specs.Laws.Flight.{begun};
+ghost use Rattle.wire_memap.specs.Ports.{selectOf, a32};
+ghost use Rattle.wire_memap.specs.Laws.Doing.{rememberedOf, kindOf};
+ghost use Rattle.wire_memap.specs.Words.{pull, push};
+ghost use Rattle.wire_memap.specs.Laws.Flight.{waiting, selectStands, Accessed, Fits, Begun, BegunAt, Goes};
+ghost use Rattle.wire_memap.specs.Laws.Flight.{ensuringTask, dataTree, tarAfter, valueTree, endedTree, stepTree};
 ghost use Rattle.wire_memap.specs.Ops.{perform};
-ghost use Rattle.wire.specs.declared.Outcome.the-variants.{Value};
-ghost use Rattle.wire_memap.specs.Laws.Flight.{next, stageAfter, reachAfter, launchedTree, dataAt, atTar, ensuringTask, phaseAfter, opAfter, startedTree, nextTree, wentTree, WentCounted};
+ghost use Rattle.wire.specs.Transfer.{raw};
 use wire::Answer;
 use wire::Call;
 use wire::Outcome;
 use wire::Remembered;
-use wire::Transfer;
-
-// What follows an access's transfer: while `selecting`, the transfer `request` with `word`.
-pub struct Reach {
-    pub selecting: bool,
-    pub select: u32,
-    pub request: u8,
-    pub word: u32,
-}
-
-// An access and its transport call, in flight.
-pub struct Launched {
-    pub reach: Reach,
-    pub transfer: Transfer,
-}
-
-// A transfer with no SELECT before it.
-fn direct(request: u8, word: u32) -> Launched
-    ensures { λ r. ⌜ ((m : Memory) (k : Then) → transfer m request word (k m) ≡ launchedTree m r k) ⌝ }
-{
-    let t = wire::begin(request, word);
-    Launched {
-        reach: Reach {
-            selecting: false,
-            select: 0,
-            request: 0,
-            word: 0,
-        },
-        transfer: t,
-    }
-}
-
-// A transfer to a register of the access port: SELECT first, where it differs from the one remembered.
-fn access_start(r: Remembered, request: u8, addr: u8, word: u32) -> Launched
-    ensures { λ x. ⌜ ((ws buf : List ℕ) (k : Then) → apAccess request addr word k (memoryOf r ws buf) ≡ launchedTree (memoryOf r ws buf) x k) ⌝ }
-{
-    let s = (r.apsel as u32) * 0x1000000 + (addr as u32) / 16 * 16;
-    if s == r.select {
-        return direct(request, word);
-    }
-    let t = wire::begin(8, s);
-    Launched {
-        reach: Reach {
-            selecting: true,
-            select: s,
-            request: request,
-            word: word,
-        },
-        transfer: t,
-    }
-}
 
 // What a call may ask for. The words of a run stand in the row, the last at place `last`.
 pub enum Op {
@@ -87,59 +32,84 @@ pub enum Op {
     Other(Call),
 }
 
-// Which access of an operation is in flight.
-pub enum Phase {
-    Only,
-    Unit,
-    Posted,
-    Csw,
-    Tar,
-    Sent,
-    First,
-    Pull,
-    Last,
-    Push,
-}
-
-pub enum Kind {
-    ReadWord,
-    WriteWord,
-    ReadWords,
-    WriteWords,
-}
-
-// What is done once CSW and TAR stand.
-pub struct Task {
-    pub kind: Kind,
-    pub addr: u32,
-    pub word: u32,
-    pub last: u32,
-}
-
-pub struct Doing {
-    pub phase: Phase,
-    pub left: u32,
-    pub task: Task,
-}
-
-// An operation, its access and its transport call, in flight.
-pub struct Started {
-    pub doing: Doing,
-    pub launched: Launched,
-}
-
-// What comes next in an operation: an access that is begun, its end, or as many more words of a run.
-pub enum OpNext {
-    Moving(Remembered, Started),
-    Finished(Remembered, Outcome),
-    Pulling(Remembered, Task, u32),
-    Pushing(Remembered, Task, u32),
-}
-
+// What an operation in flight comes to with an answer: its next transport call is in flight, or it is over.
 pub enum Went {
-    Moving(Remembered, Started),
-    Finished(Remembered, Outcome),
+    Moving,
+    Finished(Outcome),
 }
+
+// The words of an operation in flight, which its owner lends and which are updated in place.
+// PHASE: which access is in flight, and 16 more while SELECT goes before it.
+const PHASE: usize = 0;
+
+// A run: how many more words, and the place of its last in the row.
+const LEFT: usize = 1;
+
+const LAST: usize = 2;
+
+// What is done once CSW and TAR stand, at which address, with which word.
+const TASK: usize = 3;
+
+const ADDR: usize = 4;
+
+const DATA: usize = 5;
+
+// The access's own transfer while SELECT goes before it, and what SELECT becomes.
+const REQUEST: usize = 6;
+
+const WORD: usize = 7;
+
+const WANT: usize = 8;
+
+// What is remembered: SELECT, whether CSW is known (1), APSEL.
+const SELECT: usize = 9;
+
+const CSW: usize = 10;
+
+const APSEL: usize = 11;
+
+// The phases.
+const ONLY: u32 = 0;
+
+const UNIT: u32 = 1;
+
+const POSTED: u32 = 2;
+
+const CSW_SENT: u32 = 3;
+
+const TAR_SENT: u32 = 4;
+
+const SENT: u32 = 5;
+
+const FIRST: u32 = 6;
+
+const PULL: u32 = 7;
+
+const LAST_READ: u32 = 8;
+
+const PUSH: u32 = 9;
+
+const SELECTING: u32 = 16;
+
+// The registers of the access port.
+const CSW_ADDR: u8 = 0x0;
+
+const TAR: u8 = 0x4;
+
+const DRW: u8 = 0xC;
+
+// Requests.
+const CSW_WRITE: u32 = 1;
+
+const TAR_WRITE: u32 = 5;
+
+const SELECT_WRITE: u32 = 8;
+
+const DRW_WRITE: u32 = 13;
+
+const RDBUFF_READ: u32 = 14;
+
+const DRW_READ: u32 = 15;
 
 pub fn minus(a: u32, b: u32) -> u32
     ensures { λ r. ⌜ r ≡ a - b ⌝ }
@@ -171,339 +141,248 @@ pub fn word_at(row: &[u32], i: u32) -> u32
     0
 }
 
-// A transfer with no SELECT before it, in a phase of a task.
-fn direct_on(phase: Phase, left: u32, t: Task, request: u8, word: u32) -> Started
-    ensures { λ r. ⌜ ((k : Then) (m : Memory) → transferring request word (phaseAfter phase t left k) m ≡ startedTree r k m) ⌝ }
+// What is remembered, as the words have it.
+pub fn remembered(m: &[u32; 12]) -> Remembered
+    ensures { λ r. ⌜ r ≡ rememberedOf (now (m .entry)) ⌝ }
 {
-    let x = direct(request, word);
-    Started {
-        doing: Doing {
-            phase: phase,
-            left: left,
-            task: t,
-        },
-        launched: x,
+    let apsel = m[APSEL] % 256;
+    Remembered {
+        select: m[SELECT],
+        csw: m[CSW] == 1,
+        apsel: apsel as u8,
     }
 }
 
-// An access of the access port, in a phase of a task.
-fn access_on(
-    r: Remembered,
-    phase: Phase,
-    left: u32,
-    t: Task,
-    request: u8,
-    addr: u8,
-    word: u32,
-) -> Started
-    ensures { λ x. ⌜ ((ws buf : List ℕ) (k : Then) → apAccess request addr word (phaseAfter phase t left k) (memoryOf r ws buf) ≡ startedTree x k (memoryOf r ws buf)) ⌝ }
+// A transfer with no SELECT before it, in a phase.
+fn direct(t: &mut [u32; 7], m: &mut [u32; 12], phase: u32, request: u32, word: u32)
+    ensures { λ _. ⌜ (now (t .exit) ≡ begun request word (now (t .entry))) × (now (m .exit) ≡ set (now (m .entry)) 0 phase) ⌝ }
 {
-    let x = access_start(r, request, addr, word);
-    Started {
-        doing: Doing {
-            phase: phase,
-            left: left,
-            task: t,
-        },
-        launched: x,
+    m[PHASE] = phase;
+    wire::begin(t, request, word);
+}
+
+// SELECT goes before the access's own transfer.
+fn selecting(t: &mut [u32; 7], m: &mut [u32; 12], phase: u32, request: u32, word: u32, select: u32)
+    ensures { λ _. ⌜ (now (t .exit) ≡ begun 8 select (now (t .entry))) × (now (m .exit) ≡ waiting phase request word select (now (m .entry))) ⌝ }
+{
+    m[PHASE] = phase % 16 + SELECTING;
+    m[REQUEST] = request;
+    m[WORD] = word;
+    m[WANT] = select;
+    wire::begin(t, SELECT_WRITE, select);
+}
+
+// SELECT for the register at `addr` of the present access port.
+fn select_of(m: &[u32; 12], addr: u8) -> u32
+    ensures { λ r. ⌜ r ≡ selectOf (rememberedOf (now (m .entry))) addr ⌝ }
+{
+    let apsel = m[APSEL] % 256;
+    apsel * 0x1000000 + (addr as u32) / 16 * 16
+}
+
+// A transfer to a register of the access port, in a phase: SELECT first, where it differs from the one remembered.
+fn access(t: &mut [u32; 7], m: &mut [u32; 12], phase: u32, request: u32, addr: u8, word: u32)
+    ensures { λ _. ⌜ Accessed phase request addr word (now (t .entry)) (now (m .entry)) (now (t .exit)) (now (m .exit)) ⌝ }
+{
+    let s = select_of(m, addr);
+    if s == m[SELECT] {
+        direct(t, m, phase, request, word);
+        return;
     }
+    selecting(t, m, phase, request, word, s);
 }
 
 // The next access of a run of reads: DRW while `more` are to be asked for, and then RDBUFF.
-pub fn pull_on(t: Task, more: u32) -> Started
-    ensures { λ r. ⌜ ((k : Then) (m : Memory) → pull (t .last) more k m ≡ startedTree r k m) ⌝ }
+fn pull_on(t: &mut [u32; 7], m: &mut [u32; 12], more: u32)
+    ensures { λ _. ⌜ Begun (pull (getD (now (m .entry)) 2 0) more) (now (t .entry)) (now (m .entry)) (now (t .exit)) (now (m .exit)) ⌝ }
 {
     if more == 0 {
-        return direct_on(Phase::Last, 0, t, 14, 0);
+        direct(t, m, LAST_READ, RDBUFF_READ, 0);
+        return;
     }
-    direct_on(Phase::Pull, more, t, 15, 0)
+    m[LEFT] = more;
+    direct(t, m, PULL, DRW_READ, 0);
 }
 
 // The next access of a run of writes: DRW while `more` words are to go, and then RDBUFF.
-pub fn push_on(t: Task, more: u32, row: &[u32]) -> Started
-    ensures { λ r. ⌜ ((k : Then) (m : Memory) → m .words ≡ now (row .entry) → push (t .last) more k m ≡ startedTree r k m) ⌝ }
+fn push_on(t: &mut [u32; 7], m: &mut [u32; 12], more: u32, row: &[u32])
+    ensures { λ _. ⌜ BegunAt (push (getD (now (m .entry)) 2 0) more) (now (row .entry)) (now (t .entry)) (now (m .entry)) (now (t .exit)) (now (m .exit)) ⌝ }
 {
     if more == 0 {
-        return direct_on(Phase::Unit, 0, t, 14, 0);
+        direct(t, m, UNIT, RDBUFF_READ, 0);
+        return;
     }
-    let v = word_at(row, minus(t.last, more - 1));
-    direct_on(Phase::Push, more, t, 13, v)
-}
-
-// RDBUFF is next, in a phase of a task.
-fn rdbuff_next(r: Remembered, phase: Phase, t: Task) -> OpNext
-    ensures { λ x. ⌜ ((ws buf : List ℕ) (k : Then) → transferring 14 0 (phaseAfter phase t 0 k) (memoryOf r ws buf) ≡ nextTree ws buf x k) ⌝ }
-{
-    OpNext::Moving(r, direct_on(phase, 0, t, 14, 0))
-}
-
-// DRW is next, in a phase of a task.
-fn drw_next(r: Remembered, phase: Phase, left: u32, t: Task, request: u8, word: u32) -> OpNext
-    ensures { λ x. ⌜ ((ws buf : List ℕ) (k : Then) → apAccess request DRW word (phaseAfter phase t left k) (memoryOf r ws buf) ≡ nextTree ws buf x k) ⌝ }
-{
-    OpNext::Moving(r, access_on(r, phase, left, t, request, 12, word))
-}
-
-// CSW stands: TAR is next.
-fn tar_next(r: Remembered, t: Task, n: u32) -> OpNext
-    ensures { λ x. ⌜ ((ws buf : List ℕ) (k : Then) → atTar t n k (memoryOf (cswKnown r) ws buf) ≡ nextTree ws buf x k) ⌝ }
-{
-    let known = Remembered {
-        select: r.select,
-        csw: true,
-        apsel: r.apsel,
-    };
-    OpNext::Moving(known, access_on(known, Phase::Tar, n, t, 5, 4, t.addr))
+    let v = word_at(row, minus(m[LAST], more - 1));
+    m[LEFT] = more;
+    direct(t, m, PUSH, DRW_WRITE, v);
 }
 
 // The first data access of a task.
-fn data_on(r: Remembered, t: Task, n: u32, row: &[u32]) -> OpNext
-    ensures { λ x. ⌜ ((buf : List ℕ) (k : Then) → dataAt (t .kind) t n k (memoryOf r (now (row .entry)) buf) ≡ nextTree (now (row .entry)) buf x k) ⌝ }
+fn data_on(t: &mut [u32; 7], m: &mut [u32; 12], row: &[u32]) -> Went
+    ensures { λ r. ⌜ (Fits (now (t .entry)) (now (m .entry)) → Goes (dataTree (now (m .entry)) (now (row .entry))) r (now (t .exit)) (now (m .exit)) (now (row .entry))) ⌝ }
 {
-    let kind = t.kind;
+    let kind = m[TASK];
+    let n = m[LEFT];
     match kind {
-        Kind::ReadWord => return drw_next(r, Phase::Posted, n, t, 15, 0),
-        Kind::WriteWord => return drw_next(r, Phase::Sent, n, t, 13, t.word),
-        Kind::ReadWords => {
+        0 => access(t, m, POSTED, DRW_READ, DRW, 0),
+        1 => {
+            let word = m[DATA];
+            access(t, m, SENT, DRW_WRITE, DRW, word)
+        }
+        2 => {
             if n == 0 {
-                return OpNext::Finished(r, Outcome::Value(0));
+                return Went::Finished(Outcome::Value(0));
             }
-            return drw_next(r, Phase::First, n, t, 15, 0);
+            access(t, m, FIRST, DRW_READ, DRW, 0)
         }
-        Kind::WriteWords => {
-            let v = word_at(row, minus(t.last, minus(n, 1)));
-            return drw_next(r, Phase::Push, n, t, 13, v);
+        _ => {
+            let word = word_at(row, minus(m[LAST], minus(n, 1)));
+            access(t, m, PUSH, DRW_WRITE, DRW, word)
         }
     }
+    Went::Moving
 }
 
-// A word of a run of reads goes to the row, n places before its last.
-fn pulled(r: Remembered, t: Task, n: u32, v: u32, row: &mut [u32]) -> OpNext
-    ensures { λ x. ⌜ ((buf : List ℕ) (k : Then) → place (t .last - n) v (next (pull (t .last) (n - 1)) k) (memoryOf r (now (row .entry)) buf) ≡ nextTree (now (row .exit)) buf x k) ⌝ }
+// CSW stands: TAR is next.
+fn tar_on(t: &mut [u32; 7], m: &mut [u32; 12])
+    ensures { λ _. ⌜ Begun (tarAfter (now (m .entry))) (now (t .entry)) (now (m .entry)) (now (t .exit)) (now (m .exit)) ⌝ }
 {
-    place_word(row, minus(t.last, n), v);
-    OpNext::Pulling(r, t, minus(n, 1))
+    m[CSW] = 1;
+    let addr = m[ADDR];
+    access(t, m, TAR_SENT, TAR_WRITE, TAR, addr);
 }
 
-// The last word of a run of reads goes to the row.
-fn pulled_last(r: Remembered, t: Task, v: u32, row: &mut [u32]) -> OpNext
-    ensures { λ x. ⌜ ((buf : List ℕ) (k : Then) → place (t .last) v k (memoryOf r (now (row .entry)) buf) ≡ nextTree (now (row .exit)) buf x k) ⌝ }
+// What an operation does with the value of its access, which is not SELECT's.
+fn value_after(t: &mut [u32; 7], m: &mut [u32; 12], v: u32, row: &mut [u32]) -> Went
+    ensures { λ r. ⌜ (getD (now (m .entry)) 0 0 < 16 → Fits (now (t .entry)) (now (m .entry)) → Goes (valueTree (now (m .entry)) v (now (row .entry))) r (now (t .exit)) (now (m .exit)) (now (row .exit))) ⌝ }
 {
-    place_word(row, t.last, v);
-    OpNext::Finished(r, Outcome::Value(0))
-}
-
-// What an operation does with the value of its access.
-fn value_after(r: Remembered, d: Doing, v: u32, row: &mut [u32]) -> OpNext
-    ensures { λ x. ⌜ ((buf : List ℕ) (k : Then) → opAfter d k (memoryOf r (now (row .entry)) buf) (Value v) ≡ nextTree (now (row .exit)) buf x k) ⌝ }
-{
-    let t = d.task;
-    let n = d.left;
-    let phase = d.phase;
+    let phase = m[PHASE];
+    let n = m[LEFT];
+    let last = m[LAST];
     match phase {
-        Phase::Only => return OpNext::Finished(r, Outcome::Value(v)),
-        Phase::Unit => return OpNext::Finished(r, Outcome::Value(0)),
-        Phase::Posted => return rdbuff_next(r, Phase::Only, t),
-        Phase::Csw => return tar_next(r, t, n),
-        Phase::Tar => return data_on(r, t, n, row),
-        Phase::Sent => return rdbuff_next(r, Phase::Unit, t),
-        Phase::First => return OpNext::Pulling(r, t, minus(n, 1)),
-        Phase::Pull => return pulled(r, t, n, v, row),
-        Phase::Last => return pulled_last(r, t, v, row),
-        Phase::Push => return OpNext::Pushing(r, t, minus(n, 1)),
+        0 => return Went::Finished(Outcome::Value(v)),
+        1 => return Went::Finished(Outcome::Value(0)),
+        2 => direct(t, m, ONLY, RDBUFF_READ, 0),
+        3 => tar_on(t, m),
+        4 => return data_on(t, m, row),
+        5 => direct(t, m, UNIT, RDBUFF_READ, 0),
+        6 => pull_on(t, m, minus(n, 1)),
+        7 => {
+            place_word(row, minus(last, n), v);
+            pull_on(t, m, minus(n, 1))
+        }
+        8 => {
+            place_word(row, last, v);
+            return Went::Finished(Outcome::Value(0));
+        }
+        _ => push_on(t, m, minus(n, 1), row),
     }
-}
-
-// A word or a run of words: CSW first, where it is not known, and then TAR.
-fn task_start(r: Remembered, t: Task, n: u32) -> Started
-    ensures { λ x. ⌜ ((ws buf : List ℕ) (k : Then) → ensuringTask t n k (memoryOf r ws buf) ≡ startedTree x k (memoryOf r ws buf)) ⌝ }
-    ensures counted { λ x. ⌜ Counted (x .launched .transfer) ⌝ }
-{
-    if r.csw {
-        return access_on(r, Phase::Tar, n, t, 5, 4, t.addr);
-    }
-    access_on(r, Phase::Csw, n, t, 1, 0, 0x23000012)
-}
-
-// A transport call as it stands, with nothing to do after it; t is any task.
-fn raw_start(c: Call, t: Task) -> Started
-    ensures { λ x. ⌜ ((k : Then) (m : Memory) → raw m c (k m) ≡ startedTree x k m) ⌝ }
-    ensures counted { λ x. ⌜ Counted (x .launched .transfer) ⌝ }
-{
-    let x = wire::begin_raw(c);
-    let alone = Reach {
-        selecting: false,
-        select: 0,
-        request: 0,
-        word: 0,
-    };
-    Started {
-        doing: Doing {
-            phase: Phase::Only,
-            left: 0,
-            task: t,
-        },
-        launched: Launched {
-            reach: alone,
-            transfer: x,
-        },
-    }
-}
-
-pub fn op_start(r: Remembered, op: Op) -> Started
-    ensures { λ x. ⌜ ((ws buf : List ℕ) (k : Then) → perform op k (memoryOf r ws buf) ≡ startedTree x k (memoryOf r ws buf)) ⌝ }
-    ensures counted { λ x. ⌜ Counted (x .launched .transfer) ⌝ }
-{
-    let none = Task {
-        kind: Kind::ReadWord,
-        addr: 0,
-        word: 0,
-        last: 0,
-    };
-    match op {
-        Op::DpRead { addr } => return direct_on(Phase::Only, 0, none, 2 + addr % 16 / 4 * 4, 0),
-        Op::DpWrite { addr, word } => return direct_on(
-            Phase::Unit,
-            0,
-            none,
-            addr % 16 / 4 * 4,
-            word,
-        ),
-        Op::ApRead { addr } => return access_on(
-            r,
-            Phase::Posted,
-            0,
-            none,
-            3 + addr % 16 / 4 * 4,
-            addr,
-            0,
-        ),
-        Op::ApWrite { addr, word } => return access_on(
-            r,
-            Phase::Unit,
-            0,
-            none,
-            1 + addr % 16 / 4 * 4,
-            addr,
-            word,
-        ),
-        Op::ReadWord { addr } => return task_start(
-            r,
-            Task {
-                kind: Kind::ReadWord,
-                addr: addr,
-                word: 0,
-                last: 0,
-            },
-            0,
-        ),
-        Op::WriteWord { addr, word } => return task_start(
-            r,
-            Task {
-                kind: Kind::WriteWord,
-                addr: addr,
-                word: word,
-                last: 0,
-            },
-            0,
-        ),
-        Op::ReadWords { addr, n, last } => return task_start(
-            r,
-            Task {
-                kind: Kind::ReadWords,
-                addr: addr,
-                word: 0,
-                last: last,
-            },
-            n,
-        ),
-        Op::WriteWords { addr, n, last } => return task_start(
-            r,
-            Task {
-                kind: Kind::WriteWords,
-                addr: addr,
-                word: 0,
-                last: last,
-            },
-            n,
-        ),
-        Op::Other(c) => return raw_start(c, none),
-    }
+    Went::Moving
 }
 
 // SELECT is written: the access's own transfer is next.
-fn selected_next(r: Remembered, s: Started) -> OpNext
-    ensures { λ x. ⌜ ((ws buf : List ℕ) (k : Then) → stageAfter true (s .launched .reach) (opAfter (s .doing) k) (memoryOf r ws buf) (Value 0) ≡ nextTree ws buf x k) ⌝ }
+fn selected(t: &mut [u32; 7], m: &mut [u32; 12])
+    ensures { λ _. ⌜ (now (t .exit) ≡ begun (getD (now (m .entry)) 6 0) (getD (now (m .entry)) 7 0) (now (t .entry))) × (now (m .exit) ≡ selectStands (now (m .entry))) ⌝ }
 {
-    let d = s.doing;
-    let x = direct(s.launched.reach.request, s.launched.reach.word);
-    OpNext::Moving(
-        Remembered {
-            select: s.launched.reach.select,
-            csw: r.csw,
-            apsel: r.apsel,
-        },
-        Started {
-            doing: d,
-            launched: x,
-        },
-    )
+    let select = m[WANT];
+    let phase = m[PHASE];
+    let request = m[REQUEST];
+    let word = m[WORD];
+    m[SELECT] = select;
+    m[PHASE] = phase % 16;
+    wire::begin(t, request, word);
 }
 
 // What an operation in flight does with the outcome of its transport call; an error ends it.
-pub fn op_ended(r: Remembered, s: Started, o: Outcome, row: &mut [u32]) -> OpNext
-    ensures { λ x. ⌜ ((buf : List ℕ) (k : Then) → reachAfter (s .launched .reach) (opAfter (s .doing) k) (memoryOf r (now (row .entry)) buf) o ≡ nextTree (now (row .exit)) buf x k) ⌝ }
+fn op_ended(t: &mut [u32; 7], m: &mut [u32; 12], o: Outcome, row: &mut [u32]) -> Went
+    ensures { λ r. ⌜ (Fits (now (t .entry)) (now (m .entry)) → Goes (endedTree (now (m .entry)) o (now (row .entry))) r (now (t .exit)) (now (m .exit)) (now (row .exit))) ⌝ }
 {
     match o {
         Outcome::Value(v) => {
-            if s.launched.reach.selecting {
-                return selected_next(r, s);
+            if m[PHASE] < SELECTING {
+                return value_after(t, m, v, row);
             }
-            return value_after(r, s.doing, v, row);
+            selected(t, m);
+            Went::Moving
         }
-        Outcome::Failed(e) => return OpNext::Finished(r, Outcome::Failed(e)),
+        Outcome::Failed(e) => Went::Finished(Outcome::Failed(e)),
     }
-}
-
-// The next access of an operation is begun.
-fn resumed(n: OpNext, row: &[u32]) -> Went
-    ensures { λ x. ⌜ ((buf : List ℕ) (k : Then) → nextTree (now (row .entry)) buf n k ≡ wentTree (now (row .entry)) buf x k) ⌝ }
-{
-    match n {
-        OpNext::Moving(r, s) => return Went::Moving(r, s),
-        OpNext::Finished(r, o) => return Went::Finished(r, o),
-        OpNext::Pulling(r, t, more) => return Went::Moving(r, pull_on(t, more)),
-        OpNext::Pushing(r, t, more) => return Went::Moving(r, push_on(t, more, row)),
-    }
-}
-
-// The transport call in flight goes on as t.
-fn again(r: Remembered, s: Started, t: Transfer) -> Went
-    ensures { λ x. ⌜ ((ws buf : List ℕ) (k : Then) → transferTree (memoryOf r ws buf) t (reachAfter (s .launched .reach) (opAfter (s .doing) k) (memoryOf r ws buf)) ≡ wentTree ws buf x k) ⌝ }
-    ensures counted { λ x. ⌜ (Counted t → WentCounted x) ⌝ }
-{
-    let d = s.doing;
-    let l = s.launched;
-    let reach = l.reach;
-    Went::Moving(
-        r,
-        Started {
-            doing: d,
-            launched: Launched {
-                reach: reach,
-                transfer: t,
-            },
-        },
-    )
 }
 
 // What an operation in flight does with an answer.
-pub fn op_step(r: Remembered, s: Started, a: Answer, row: &mut [u32]) -> Went
-    ensures { λ x. ⌜ ((buf : List ℕ) (k : Then) → follow (startedTree s k (memoryOf r (now (row .entry)) buf)) a ≡ wentTree (now (row .exit)) buf x k) ⌝ }
-    ensures counted { λ x. ⌜ WentCounted x ⌝ }
+pub fn op_step(t: &mut [u32; 7], m: &mut [u32; 12], a: Answer, row: &mut [u32]) -> Went
+    ensures { λ r. ⌜ (Fits (now (t .entry)) (now (m .entry)) → Goes (stepTree (now (t .entry)) (now (m .entry)) a (now (row .entry))) r (now (t .exit)) (now (m .exit)) (now (row .exit))) ⌝ }
 {
-    match wire::transfer_step(s.launched.transfer, a) {
-        wire::Went::Again(t2) => return again(r, s, t2),
-        wire::Went::Ended(o) => return resumed(op_ended(r, s, o, row), row),
+    match wire::transfer_step(t, a) {
+        wire::Went::Again => Went::Moving,
+        wire::Went::Ended(o) => op_ended(t, m, o, row),
+    }
+}
+
+// What is done once CSW and TAR stand.
+const READ_WORD: u32 = 0;
+
+const WRITE_WORD: u32 = 1;
+
+const READ_WORDS: u32 = 2;
+
+const WRITE_WORDS: u32 = 3;
+
+// Words, TAR advancing by itself, and the bits that the Rust sets besides.
+const CSW_DEFAULT: u32 = 0x23000012;
+
+// A word or a run of n words: CSW first, where it is not known, and then TAR.
+fn task_start(
+    t: &mut [u32; 7],
+    m: &mut [u32; 12],
+    kind: u32,
+    addr: u32,
+    word: u32,
+    n: u32,
+    last: u32,
+)
+    ensures { λ _. ⌜ Begun (ensuringTask (record { kind = kindOf kind; addr = addr; word = word; last = last }) n) (now (t .entry)) (now (m .entry)) (now (t .exit)) (now (m .exit)) ⌝ }
+{
+    m[TASK] = kind;
+    m[ADDR] = addr;
+    m[DATA] = word;
+    m[LEFT] = n;
+    m[LAST] = last;
+    if m[CSW] == 1 {
+        access(t, m, TAR_SENT, TAR_WRITE, TAR, addr);
+        return;
+    }
+    access(t, m, CSW_SENT, CSW_WRITE, CSW_ADDR, CSW_DEFAULT);
+}
+
+// A2 and A3 of an address.
+fn a32(addr: u8) -> u32
+    ensures { λ r. ⌜ r ≡ a32 addr ⌝ }
+{
+    (addr as u32) % 16 / 4 * 4
+}
+
+// A transport call as it stands, with nothing to do after it.
+fn raw_start(t: &mut [u32; 7], m: &mut [u32; 12], c: Call)
+    ensures { λ _. ⌜ Begun (λ k s. raw s c (k s)) (now (t .entry)) (now (m .entry)) (now (t .exit)) (now (m .exit)) ⌝ }
+{
+    m[PHASE] = ONLY;
+    wire::begin_raw(t, c);
+}
+
+// An operation is begun: its first transport call is in flight.
+pub fn op_start(t: &mut [u32; 7], m: &mut [u32; 12], op: Op)
+    ensures { λ _. ⌜ Begun (perform op) (now (t .entry)) (now (m .entry)) (now (t .exit)) (now (m .exit)) ⌝ }
+{
+    match op {
+        Op::DpRead { addr } => direct(t, m, ONLY, 2 + a32(addr), 0),
+        Op::DpWrite { addr, word } => direct(t, m, UNIT, a32(addr), word),
+        Op::ApRead { addr } => access(t, m, POSTED, 3 + a32(addr), addr, 0),
+        Op::ApWrite { addr, word } => access(t, m, UNIT, 1 + a32(addr), addr, word),
+        Op::ReadWord { addr } => task_start(t, m, READ_WORD, addr, 0, 0, 0),
+        Op::WriteWord { addr, word } => task_start(t, m, WRITE_WORD, addr, word, 0, 0),
+        Op::ReadWords { addr, n, last } => task_start(t, m, READ_WORDS, addr, 0, n, last),
+        Op::WriteWords { addr, n, last } => task_start(t, m, WRITE_WORDS, addr, 0, n, last),
+        Op::Other(c) => raw_start(t, m, c),
     }
 }

@@ -10,6 +10,7 @@ use Rattle.wire.specs.declared.Pattern.the-variants as P
 use Rattle.wire.specs.Wire.{Wire, ask, tell, follow, Memory}
 use Rattle.wire.specs.declared.Answer.{Answer}
 use Rattle.wire.specs.Count.{Counted}
+use Rattle.wire.specs.Laws.Rows.{spelled}
 use Rattle.wire.specs.Transfer.{clearStickyErrors, afterAnswer, tries, transfer, rawOutcome}
 use Rattle.wire.specs.Transfer as T
 use Rattle.wire.specs.declared.ArmError.{ArmError}
@@ -104,15 +105,7 @@ aborts error ack t = set (set (set (set (set (set (set t 0 1) 1 1) 2 0) 3 0) 4 0
 
 -- a list of seven words is its seven words
 by-words : (Q : List ℕ → Type 0) → ((a b c d e f g : ℕ) → Q (a ∷ b ∷ c ∷ d ∷ e ∷ f ∷ g ∷ [])) → (t : List ℕ) → Sized t → Q t
-by-words Q q (a ∷ b ∷ c ∷ d ∷ e ∷ f ∷ g ∷ []) h = q a b c d e f g
-by-words Q q [] h = absurd (omega (arith, h))
-by-words Q q (a ∷ []) h = absurd (omega (arith, h))
-by-words Q q (a ∷ b ∷ []) h = absurd (omega (arith, h))
-by-words Q q (a ∷ b ∷ c ∷ []) h = absurd (omega (arith, h))
-by-words Q q (a ∷ b ∷ c ∷ d ∷ []) h = absurd (omega (arith, h))
-by-words Q q (a ∷ b ∷ c ∷ d ∷ e ∷ []) h = absurd (omega (arith, h))
-by-words Q q (a ∷ b ∷ c ∷ d ∷ e ∷ f ∷ []) h = absurd (omega (arith, h))
-by-words Q q (a ∷ b ∷ c ∷ d ∷ e ∷ f ∷ g ∷ x ∷ xs) h = absurd (omega (arith, h))
+by-words Q q t s = subst Q (spelled 7 t s) (q _ _ _ _ _ _ _)
 
 -- what the stores leave
 pub begun-is : (request word : ℕ) (t : List ℕ) → Sized t → (m : Memory) (k : Outcome → Wire)

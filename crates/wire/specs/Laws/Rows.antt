@@ -1,9 +1,9 @@
--- A table by number, and a number that none of its rows has.
+-- A table by number, and a number that none of its rows has; a list of so many words, word by word. Serves the proofs only.
 use Prim.Native.Nat.{ℕ, zero, suc, _≤_, zero-le}
 use mathlib.Core.List.{List, [], _∷_}
-use mathlib.Core.Path.{_≡_, refl}
+use mathlib.Core.Path.{_≡_, refl, ap}
 use native.Mathlib.Omega.{arith}
-use lib.ListN.{length, getD}
+use lib.ListN.{length, getD, drop}
 
 -- none of the k numbers below k, as a match tells it
 abbrev pub noneBelow : ℕ → ℕ → Type 0
@@ -21,3 +21,14 @@ past (r ∷ rows) (suc n) d h = past rows n d (omega arith)
 
 pub past-rows : {A : Type 0} (rows : List A) (n : ℕ) (d : A) → noneBelow (length rows) n → d ≡ getD rows n d
 past-rows rows n d h = past rows n d (at-least (length rows) n h)
+
+-- the first n words of a list
+abbrev pub spell : ℕ → List ℕ → List ℕ
+spell zero m = []
+spell (suc n) m = getD m 0 0 ∷ spell n (drop 1 m)
+
+pub spelled : (n : ℕ) (m : List ℕ) → length m ≡ n → spell n m ≡ m
+spelled zero [] h = refl
+spelled zero (x ∷ m) h = absurd (omega arith)
+spelled (suc n) [] h = absurd (omega arith)
+spelled (suc n) (x ∷ m) h = ap (λ (l : List ℕ). x ∷ l) (spelled n m (omega arith))

@@ -1,18 +1,22 @@
--- The kind makes the definition compute to its first access, which `drw_next` starts.
--- A run of writes takes its first word from the row, as `word_at` and `minus` ensure.
-use borrow.Author.Tests.{ne-eqb}
+-- The kind makes the definition compute to its first access, which `access` begins.
+use native.Mathlib.Omega.{arith}
+use Prim.Native.Nat.{_-_}
+use mathlib.Core.Path.{ap, _∙_}
+use borrow.Author.Tests.{ne-eqb, eq-eqb}
+use lib.ListN.{getD}
+use Rattle.wire_memap.specs.Laws.Flight.{goes-of, ends-with, data-writes}
 use borrow.Author.Needs.{needs}
 use Rattle.wire_memap.proofs.data_on.Statement.{statement}
 use Rattle.wire_memap.proofs.data_on.Tie as tie
 
 pub data-on-spec : {M : Type 1} → statement M
-data-on-spec = tie.close (tie.spec
-    (λ c. search needs) (λ c κs. search needs) (λ c. λ buf k. simp (c .before .enum-told .given .1) (c .drw-next .ensures _ buf k))
-    (λ c. search needs) (λ c κs. search needs) (λ c. λ buf k. simp (c .before .enum-told2 .given .1) (c .drw-next2 .ensures _ buf k))
-    (λ c. search needs) (λ c. λ buf k. simp (c .before .enum-told3 .given .1) (simp (c .if1 .taken))) (λ c κs. search needs)
-    (λ c. λ buf k. simp (c .before .before .enum-told3 .given .1) (simp (ne-eqb _ _ (c .before .if1 .left)) (c .drw-next3 .ensures _ buf k)))
-    (λ c. search needs) (λ c κs. search needs) (λ c κs. search needs) (λ c κs. search needs) (λ c κs. search needs)
-    (λ c. λ buf k. let a = c .before .before .before .before .before .before .before .args in
-    simp (c .before .before .before .before .enum-told4 .given .1)
-    (simp (c .before .word-at .ensures, c .before .before .minus2 .ensures, c .before .before .before .minus .ensures) at
-    (c .drw-next4 .ensures (a .row .now) buf k))))
+data-on-spec =
+    tie.close (tie.spec (λ c. search needs) (λ c. search needs) (λ c κs. search needs) (λ c. search needs) (λ c κs. search needs)
+    (λ c f. ends-with f (λ b k. simp (c .before .match .keys3) (simp (eq-eqb _ _ (c .if1 .taken)))))
+    (λ c κs. search needs) (λ c. search needs) (λ c κs. search needs) (λ c κs. search needs) (λ c κs. search needs) (λ c κs. search needs)
+    (λ c f. goes-of (λ b k. simp (c .before .before .before .match .keys1)) (c .access .ensures (omega arith) f _))
+    (λ c f. goes-of (λ b k. simp (c .before .before .before .before .match .keys2)) (c .access2 .ensures (omega arith) f _))
+    (λ c f. goes-of (λ b k. simp (c .before .before .before .before .match .keys3) (simp (ne-eqb _ _ (c .before .before .before .if1 .left)))) (c .access3 .ensures (omega arith) f _))
+    (λ c f. let a = c .before .before .before .before .before .before .before .before .before .before .before .args in goes-of (data-writes (a .m .now) (a .row .now) _ (c .before .before .before .before .before .before .before .match .rest)
+    (c .before .before .before .word-at .ensures ∙ ap (λ i. getD (a .row .now) i 0) (c .before .before .before .before .minus2 .ensures ∙ ap (λ i. getD (a .m .now) 2 0 - i) (c .before .before .before .before .before .minus .ensures))))
+    (c .access4 .ensures (omega arith) f _)))

@@ -1,31 +1,30 @@
 -- What an access and an operation in flight stand for. Serves the proofs only: each phase names what follows its transfer.
-use Prim.Native.Nat.{ℕ, zero, suc, _-_}
+use Prim.Native.Nat.{ℕ, zero, suc, _+_, _-_, _%_, _<_, _≤_}
 use mathlib.Core.Bool.{Bool, true, false}
 use mathlib.Core.List.{List}
-use mathlib.Core.Path.{_≡_, refl, ap}
+use mathlib.Core.Path.{_≡_, refl, sym, ap, subst, _∙_}
 use native.Mathlib.Omega.{arith}
+use borrow.Author.Tests.{lt-leb, le-leb, eq-eqb, ne-eqb}
 use lib.Dec.{eqb}
-use Rattle.wire.specs.Wire.{Wire, Memory, memoryOf}
+use lib.ListN.{set, getD, length-set}
+use Rattle.wire.specs.Wire.{Wire, Memory, follow}
+use Rattle.wire.specs.declared.Answer.{Answer}
 use Rattle.wire.specs.Count.{Counted}
-use Rattle.wire.specs.Laws.Flight.{transferTree}
-use Rattle.wire.specs.declared.Remembered.{Remembered}
+use Rattle.wire.specs.Transfer.{raw}
+use Rattle.wire.specs.Laws.Flight as W
+use Rattle.wire.specs.declared.Went as WW
+use Rattle.wire.specs.declared.Call.{Call}
+use Rattle.wire.specs.declared.Went.the-variants.{Again, Ended}
+use Rattle.wire.specs.Laws.Rows.{noneBelow, past-rows}
+use Rattle.wire.specs.Laws.Flight.{Sized, transferOf, transferTree, begun, begun-is, begun-sized, begun-counted}
 use Rattle.wire.specs.declared.ArmError.{ArmError}
 use Rattle.wire.specs.declared.Outcome.{Outcome}
 use Rattle.wire.specs.declared.Outcome.the-variants.{Value, Failed}
-use Rattle.wire_memap.specs.Action.{Then, Action, onValue, _>>=_, _>>_, return, cond, transferring, remembering, remember}
-use Rattle.wire_memap.specs.Ports.{selected, cswKnown, apAccess, apWrite, apRead, dpRead, ensureCsw, CSW-DEFAULT, RDBUFF, TAR, DRW}
+use Rattle.wire_memap.specs.Action.{Then, Action, onValue, _>>=_, _>>_, return, cond, transferring, remember, remembering}
+use Rattle.wire_memap.specs.Ports.{selectOf, selected, cswKnown, apAccess, apWrite, apRead, dpRead, ensureCsw, CSW-DEFAULT, RDBUFF, TAR, DRW}
 use Rattle.wire_memap.specs.Words.{flush, place, pull, push, pushAll, rowAt}
-use Rattle.wire_memap.specs.declared.Reach.{Reach}
-use Rattle.wire_memap.specs.declared.Launched.{Launched}
-use Rattle.wire_memap.specs.declared.Kind.{Kind}
-use Rattle.wire_memap.specs.declared.Kind.the-variants as K
-use Rattle.wire_memap.specs.declared.Phase.{Phase}
-use Rattle.wire_memap.specs.declared.Phase.the-variants as P
-use Rattle.wire_memap.specs.declared.Task.{Task}
-use Rattle.wire_memap.specs.declared.Doing.{Doing}
-use Rattle.wire_memap.specs.declared.Started.{Started}
-use Rattle.wire_memap.specs.declared.OpNext.{OpNext}
-use Rattle.wire_memap.specs.declared.OpNext.the-variants as N
+use Rattle.wire_memap.specs.Laws.Doing.{Phase, Kind, Task, Doing, Reach, OpSized, phaseOf, kindOf, taskOf, doingOf, reachOf, rememberedOf, stands, by-words}
+use Rattle.wire_memap.specs.Laws.Doing as P
 use Rattle.wire_memap.specs.declared.Went.{Went}
 use Rattle.wire_memap.specs.declared.Went.the-variants.{Moving, Finished}
 
@@ -44,15 +43,12 @@ stageAfter false r k = k
 abbrev pub reachAfter : Reach → Then → Then
 reachAfter r k m o = stageAfter (r .selecting) r k m o
 
-abbrev pub launchedTree : Memory → Launched → Then → Wire
-launchedTree m l k = transferTree m (l .transfer) (reachAfter (l .reach) k m)
-
 -- what a task does once TAR stands; n: how many words
 abbrev pub dataAt : Kind → Task → ℕ → Action
-dataAt K.ReadWord t n = apRead DRW
-dataAt K.WriteWord t n = apWrite DRW (t .word) >> flush
-dataAt K.ReadWords t n = cond (eqb n 0) (return 0) (apAccess 0xF DRW 0 >> pull (t .last) (n - 1))
-dataAt K.WriteWords t n = pushAll (t .last) n
+dataAt P.ReadWord t n = apRead DRW
+dataAt P.WriteWord t n = apWrite DRW (t .word) >> flush
+dataAt P.ReadWords t n = cond (eqb n 0) (return 0) (apAccess 0xF DRW 0 >> pull (t .last) (n - 1))
+dataAt P.WriteWords t n = pushAll (t .last) n
 
 abbrev pub atTar : Task → ℕ → Action
 atTar t n = apWrite TAR (t .addr) >> dataAt (t .kind) t n
@@ -76,22 +72,17 @@ phaseAfter P.Push t l k = next (push (t .last) (l - 1)) k
 abbrev pub opAfter : Doing → Then → Then
 opAfter d k m o = phaseAfter (d .phase) (d .task) (d .left) k m o
 
-abbrev pub startedTree : Started → Then → Memory → Wire
-startedTree s k m = launchedTree m (s .launched) (opAfter (s .doing) k)
+-- an operation in flight: the words of its transport call and its own
+abbrev pub startedTree : List ℕ → List ℕ → Then → Memory → Wire
+startedTree t m k s = transferTree s (transferOf t) (reachAfter (reachOf m) (opAfter (doingOf m) k) s)
 
-abbrev pub nextTree : List ℕ → List ℕ → OpNext → Then → Wire
-nextTree ws b (N.Moving r s) k = startedTree s k (memoryOf r ws b)
-nextTree ws b (N.Finished r o) k = k (memoryOf r ws b) o
-nextTree ws b (N.Pulling r t more) k = pull (t .last) more k (memoryOf r ws b)
-nextTree ws b (N.Pushing r t more) k = push (t .last) more k (memoryOf r ws b)
+abbrev pub wentTree : Went → List ℕ → List ℕ → List ℕ → List ℕ → Then → Wire
+wentTree Moving t m ws b k = startedTree t m k (stands m ws b)
+wentTree (Finished o) t m ws b k = k (stands m ws b) o
 
-abbrev pub wentTree : List ℕ → List ℕ → Went → Then → Wire
-wentTree ws b (Moving r s) k = startedTree s k (memoryOf r ws b)
-wentTree ws b (Finished r o) k = k (memoryOf r ws b) o
-
-abbrev pub WentCounted : Went → Type 0
-WentCounted (Moving r s) = Counted (s .launched .transfer)
-WentCounted (Finished r o) = Unit {0}
+abbrev pub WentCounted : Went → List ℕ → Type 0
+WentCounted Moving t = Counted t
+WentCounted (Finished o) t = Unit {0}
 
 -- an error behind SELECT ends the access, and every phase hands it on
 pub stage-fails : (b : Bool) (r : Reach) (k : Then) (m : Memory) (e : ArmError) → stageAfter b r k m (Failed e) ≡ k m (Failed e)
@@ -125,3 +116,285 @@ pub push-more : (last l : ℕ) (k : Then) (m : Memory) → (l ≡ 0 → ⊥)
 unfolding push
 push-more last zero k m h = absurd (h refl)
 push-more last (suc l) k m h = ap (λ (j : ℕ). transferring 0xD (rowAt (last - j) m) (next (push last j) k) m) (less l)
+
+-- the words of an operation in flight are as many as they must be
+abbrev pub Fits : List ℕ → List ℕ → Type 0
+Fits t m = Sized t × OpSized m
+
+-- The action p, where m₀ has what is remembered and ws are the words of a run, is in flight in the words t and m.
+pub record Begins (p : Action) (m₀ ws t m : List ℕ) : Type 0 where
+  pub tree : (b : List ℕ) (k : Then) → p k (stands m₀ ws b) ≡ startedTree t m k (stands m ws b)
+  pub fits : Fits t m
+  pub counted : Counted t
+
+-- The tree w goes on as r, in the words t and m and the row ws.
+pub record Goes (w : List ℕ → Then → Wire) (r : Went) (t m ws : List ℕ) : Type 0 where
+  pub tree : (b : List ℕ) (k : Then) → w b k ≡ wentTree r t m ws b k
+  pub fits : Fits t m
+  pub counted : WentCounted r t
+
+pub moves : {p : Action} {m₀ ws t m : List ℕ} → Begins p m₀ ws t m → Goes (λ b k. p k (stands m₀ ws b)) Moving t m ws
+moves g = record { tree = g .tree; fits = g .fits; counted = g .counted }
+
+-- the stores of `selecting`
+abbrev pub waiting : ℕ → ℕ → ℕ → ℕ → List ℕ → List ℕ
+waiting phase request word select m = set (set (set (set m 0 (phase % 16 + 16)) 6 request) 7 word) 8 select
+
+-- an access that is begun in a phase of what the words m say
+abbrev pub inPhase : ℕ → List ℕ → Then → Then
+inPhase n m k = phaseAfter (phaseOf n) (taskOf m) (getD m 1 0) k
+
+abbrev pub Accessed : ℕ → ℕ → ℕ → ℕ → List ℕ → List ℕ → List ℕ → List ℕ → Type 0
+Accessed n request addr word t₀ m₀ t m =
+    n < 16 → Fits t₀ m₀ → (ws : List ℕ) → Begins (λ k. apAccess request addr word (inPhase n m₀ k)) m₀ ws t m
+
+mod16 : (n : ℕ) → n < 16 → n % 16 ≡ n
+mod16 n l = omega (arith, l)
+
+mod16-up : (n : ℕ) → n < 16 → (n + 16) % 16 ≡ n
+mod16-up n l = omega (arith, l)
+
+pub direct-begins : (n request word : ℕ) (t m ws : List ℕ) → n < 16 → Fits t m
+    → Begins (λ k. transferring request word (inPhase n m k)) m ws (begun request word t) (set m 0 n)
+direct-begins n request word t m ws l f = record {
+  tree = λ b k. by-words
+      (λ m. transferring request word (inPhase n m k) (stands m ws b) ≡ startedTree (begun request word t) (set m 0 n) k (stands (set m 0 n) ws b))
+      (λ m₀ m₁ m₂ m₃ m₄ m₅ m₆ m₇ m₈ m₉ m₁₀ m₁₁. rw (mod16 n l) (rw (lt-leb 16 n l) (begun-is request word t (f .0) _ _)))
+      m (f .1);
+  fits = (begun-sized request word t (f .0), length-set m 0 n ∙ f .1);
+  counted = begun-counted request word t (f .0);
+}
+
+select-begins : (n request word s : ℕ) (t m ws : List ℕ) → n < 16 → Fits t m
+    → Begins (λ k. transferring 8 s (stageAfter true (record { selecting = true; select = s; request = request; word = word }) (inPhase n m k))) m ws
+    (begun 8 s t) (waiting n request word s m)
+select-begins n request word s t m ws l f = record {
+  tree = λ b k. by-words
+      (λ m. transferring 8 s (stageAfter true (record { selecting = true; select = s; request = request; word = word }) (inPhase n m k)) (stands m ws b)
+      ≡ startedTree (begun 8 s t) (waiting n request word s m) k (stands (waiting n request word s m) ws b))
+      (λ m₀ m₁ m₂ m₃ m₄ m₅ m₆ m₇ m₈ m₉ m₁₀ m₁₁. rw (mod16 n l) (rw (mod16-up n l) (rw (le-leb 16 (n + 16) (omega arith)) (begun-is 8 s t (f .0) _ _))))
+      m (f .1);
+  fits = (begun-sized 8 s t (f .0), by-words (λ m. OpSized (waiting n request word s m)) (λ _ _ _ _ _ _ _ _ _ _ _ _. refl) m (f .1));
+  counted = begun-counted 8 s t (f .0);
+}
+
+pub begins-as : {p : Action} {m₀ ws t m u v : List ℕ} → (u ≡ t) × (v ≡ m) → Begins p m₀ ws t m → Begins p m₀ ws u v
+begins-as {p} {m₀} {ws} {t} {m} {u} {v} e g =
+    subst (λ (x : List ℕ). Begins p m₀ ws x v) (sym (e .0)) (subst (λ (x : List ℕ). Begins p m₀ ws t x) (sym (e .1)) g)
+
+-- the same action
+pub begins-of : {p q : Action} {m₀ ws t m : List ℕ} → ((b : List ℕ) (k : Then) → p k (stands m₀ ws b) ≡ q k (stands m₀ ws b)) → Begins q m₀ ws t m → Begins p m₀ ws t m
+begins-of e g = record { tree = λ b k. e b k ∙ g .tree b k; fits = g .fits; counted = g .counted }
+
+-- an access where SELECT stands already, and one where it does not
+pub access-known : (n request addr word s : ℕ) (t m : List ℕ) {u v : List ℕ} → s ≡ selectOf (rememberedOf m) addr → s ≡ getD m 9 0
+    → (u ≡ begun request word t) × (v ≡ set m 0 n) → Accessed n request addr word t m u v
+access-known n request addr word s t m is e g l f ws =
+    begins-as g (begins-of (λ b k. simp (eq-eqb _ _ (sym is ∙ e))) (direct-begins n request word t m ws l f))
+
+pub access-selects : (n request addr word s : ℕ) (t m : List ℕ) {u v : List ℕ} → s ≡ selectOf (rememberedOf m) addr → (s ≡ getD m 9 0 → ⊥)
+    → (u ≡ begun 8 s t) × (v ≡ waiting n request word s m) → Accessed n request addr word t m u v
+access-selects n request addr word s t m is e g l f ws =
+    begins-as g (begins-of (λ b k. simp (ne-eqb _ _ (λ q. e (is ∙ q))) (rw (← is) refl)) (select-begins n request word s t m ws l f))
+
+-- The action p, begun in the words t₀ and m₀ over the row ws, is in flight in t and m; and the same over every row.
+abbrev pub BegunAt : Action → List ℕ → List ℕ → List ℕ → List ℕ → List ℕ → Type 0
+BegunAt p ws t₀ m₀ t m = Fits t₀ m₀ → Begins p m₀ ws t m
+
+abbrev pub Begun : Action → List ℕ → List ℕ → List ℕ → List ℕ → Type 0
+Begun p t₀ m₀ t m = (ws : List ℕ) → BegunAt p ws t₀ m₀ t m
+
+abbrev pub dataTree : List ℕ → List ℕ → List ℕ → Then → Wire
+dataTree m ws b k = dataAt (kindOf (getD m 3 0)) (taskOf m) (getD m 1 0) k (stands m ws b)
+
+-- a run of reads: RDBUFF, or one word more
+pub pull-ends : (t m : List ℕ) {u v : List ℕ} (more : ℕ) → more ≡ 0 → (u ≡ begun 14 0 t) × (v ≡ set m 0 8) → Begun (pull (getD m 2 0) more) t m u v
+unfolding pull
+pull-ends t m more z g ws f = begins-as g (begins-of (λ b k. rw z refl) (direct-begins 8 14 0 t m ws (omega arith) f))
+
+pub pull-goes : (t m : List ℕ) {u v : List ℕ} (more : ℕ) → (more ≡ 0 → ⊥) → (u ≡ begun 15 0 t) × (v ≡ set (set m 1 more) 0 7)
+    → Begun (pull (getD m 2 0) more) t m u v
+pull-goes t m more z g ws f = begins-as g (record { tree = λ b k. here b k ∙ there .tree b k; fits = there .fits; counted = there .counted })
+  where
+    m₁ : List ℕ
+    m₁ = set m 1 more
+
+    there : Begins (λ k. transferring 15 0 (inPhase 7 m₁ k)) m₁ ws (begun 15 0 t) (set m₁ 0 7)
+    there = direct-begins 7 15 0 t m₁ ws (omega arith) (f .0, length-set m 1 more ∙ f .1)
+
+    here : (b : List ℕ) (k : Then) → pull (getD m 2 0) more k (stands m ws b) ≡ transferring 15 0 (inPhase 7 m₁ k) (stands m₁ ws b)
+    here b k = by-words (λ m. pull (getD m 2 0) more k (stands m ws b) ≡ transferring 15 0 (inPhase 7 (set m 1 more) k) (stands (set m 1 more) ws b))
+        (λ m₀ m₁ m₂ m₃ m₄ m₅ m₆ m₇ m₈ m₉ m₁₀ m₁₁. pull-more m₂ more k _ z) m (f .1)
+
+-- a run of writes: RDBUFF, or one word more
+pub push-ends : (t m ws : List ℕ) {u v : List ℕ} (more : ℕ) → more ≡ 0 → (u ≡ begun 14 0 t) × (v ≡ set m 0 1)
+    → BegunAt (push (getD m 2 0) more) ws t m u v
+unfolding push
+push-ends t m ws more z g f = begins-as g (begins-of (λ b k. rw z refl) (direct-begins 1 14 0 t m ws (omega arith) f))
+
+pub push-goes : (t m ws : List ℕ) {u v : List ℕ} (more w : ℕ) → (more ≡ 0 → ⊥) → w ≡ getD ws (getD m 2 0 - (more - 1)) 0
+    → (u ≡ begun 13 w t) × (v ≡ set (set m 1 more) 0 9) → BegunAt (push (getD m 2 0) more) ws t m u v
+push-goes t m ws more w z e g f = begins-as g (record { tree = λ b k. here b k ∙ there .tree b k; fits = there .fits; counted = there .counted })
+  where
+    m₁ : List ℕ
+    m₁ = set m 1 more
+
+    there : Begins (λ k. transferring 13 w (inPhase 9 m₁ k)) m₁ ws (begun 13 w t) (set m₁ 0 9)
+    there = direct-begins 9 13 w t m₁ ws (omega arith) (f .0, length-set m 1 more ∙ f .1)
+
+    here : (b : List ℕ) (k : Then) → push (getD m 2 0) more k (stands m ws b) ≡ transferring 13 w (inPhase 9 m₁ k) (stands m₁ ws b)
+    here b k = by-words (λ m. w ≡ getD ws (getD m 2 0 - (more - 1)) 0
+        → push (getD m 2 0) more k (stands m ws b) ≡ transferring 13 w (inPhase 9 (set m 1 more) k) (stands (set m 1 more) ws b))
+        (λ m₀ m₁ m₂ m₃ m₄ m₅ m₆ m₇ m₈ m₉ m₁₀ m₁₁ e. rw e (push-more m₂ more k _ z)) m (f .1) e
+
+-- a tree that is an action goes on as the action, and one that is over ends
+pub goes-of : {w : List ℕ → Then → Wire} {p : Action} {m₀ ws t m : List ℕ} → ((b : List ℕ) (k : Then) → w b k ≡ p k (stands m₀ ws b))
+    → Begins p m₀ ws t m → Goes w Moving t m ws
+goes-of e g = record { tree = λ b k. e b k ∙ g .tree b k; fits = g .fits; counted = g .counted }
+
+pub ends-with : {w : List ℕ → Then → Wire} {o : Outcome} {t m ws : List ℕ} → Fits t m → ((b : List ℕ) (k : Then) → w b k ≡ k (stands m ws b) o)
+    → Goes w (Finished o) t m ws
+ends-with f e = record { tree = e; fits = f; counted = tt }
+
+-- a run of writes begins with the first of its words
+pub data-writes : (m ws : List ℕ) (w : ℕ) → noneBelow 3 (getD m 3 0) → w ≡ getD ws (getD m 2 0 - (getD m 1 0 - 1)) 0
+    → (b : List ℕ) (k : Then) → dataTree m ws b k ≡ apAccess 13 DRW w (inPhase 9 m k) (stands m ws b)
+data-writes m ws w n e b k =
+    ap (λ (x : Kind). dataAt x (taskOf m) (getD m 1 0) k (stands m ws b)) (sym (past-rows P.kinds (getD m 3 0) P.WriteWords n))
+    ∙ ap (λ (x : ℕ). apAccess 13 DRW x (inPhase 9 m k) (stands m ws b)) (sym e)
+
+-- what the code does after each answer, as trees over the words
+abbrev pub tarAfter : List ℕ → Action
+tarAfter m k s = atTar (taskOf m) (getD m 1 0) k (remembering s (cswKnown (s .remembered)))
+
+abbrev pub valueTree : List ℕ → ℕ → List ℕ → List ℕ → Then → Wire
+valueTree m v ws b k = phaseAfter (phaseOf (getD m 0 0)) (taskOf m) (getD m 1 0) k (stands m ws b) (Value v)
+
+abbrev pub endedTree : List ℕ → Outcome → List ℕ → List ℕ → Then → Wire
+endedTree m o ws b k = reachAfter (reachOf m) (opAfter (doingOf m) k) (stands m ws b) o
+
+abbrev pub stepTree : List ℕ → List ℕ → Answer → List ℕ → List ℕ → Then → Wire
+stepTree t m a ws b k = follow (startedTree t m k (stands m ws b)) a
+
+abbrev pub selectStands : List ℕ → List ℕ
+selectStands m = set (set m 9 (getD m 8 0)) 0 (getD m 0 0 % 16)
+
+pub direct-on : (n request word : ℕ) (t m ws : List ℕ) {u v : List ℕ} → n < 16 → (u ≡ begun request word t) × (v ≡ set m 0 n) → Fits t m
+    → Begins (λ k. transferring request word (inPhase n m k)) m ws u v
+direct-on n request word t m ws l g f = begins-as g (direct-begins n request word t m ws l f)
+
+-- a call that is no transfer
+pub raw-begins : (c : Call) (t m u : List ℕ)
+    → (Sized t → ((s : Memory) (k : Outcome → Wire) → raw s c k ≡ transferTree s (transferOf u) k) × Sized u × Counted u)
+    → Begun (λ k s. raw s c (k s)) t m u (set m 0 0)
+raw-begins c t m u g ws f = let h = g (f .0) in record {
+  tree = λ b k. by-words (λ m. raw (stands m ws b) c (k (stands m ws b)) ≡ startedTree u (set m 0 0) k (stands (set m 0 0) ws b))
+      (λ m₀ m₁ m₂ m₃ m₄ m₅ m₆ m₇ m₈ m₉ m₁₀ m₁₁. h .0 _ _) m (f .1);
+  fits = (h .1, length-set m 0 0 ∙ f .1);
+  counted = h .2;
+}
+
+-- TAR once CSW is known
+pub tar-begins : (t m : List ℕ) {u v : List ℕ} → Accessed 4 5 4 (getD (set m 10 1) 4 0) t (set m 10 1) u v → Begun (tarAfter m) t m u v
+tar-begins t m {u} {v} a ws f = record { tree = λ b k. here b k ∙ there .tree b k; fits = there .fits; counted = there .counted }
+  where
+    there : Begins (λ k. apAccess 5 4 (getD (set m 10 1) 4 0) (inPhase 4 (set m 10 1) k)) (set m 10 1) ws u v
+    there = a (omega arith) (f .0, length-set m 10 1 ∙ f .1) ws
+
+    here : (b : List ℕ) (k : Then) → tarAfter m k (stands m ws b) ≡ apAccess 5 4 (getD (set m 10 1) 4 0) (inPhase 4 (set m 10 1) k) (stands (set m 10 1) ws b)
+    here b k = by-words
+        (λ m. tarAfter m k (stands m ws b) ≡ apAccess 5 4 (getD (set m 10 1) 4 0) (inPhase 4 (set m 10 1) k) (stands (set m 10 1) ws b))
+        (λ m₀ m₁ m₂ m₃ m₄ m₅ m₆ m₇ m₈ m₉ m₁₀ m₁₁. refl) m (f .1)
+
+-- a task: TAR, or CSW before it
+abbrev pub tasked : ℕ → ℕ → ℕ → ℕ → ℕ → List ℕ → List ℕ
+tasked kind addr word n last m = set (set (set (set (set m 3 kind) 4 addr) 5 word) 1 n) 2 last
+
+abbrev pub taskBy : ℕ → ℕ → ℕ → ℕ → Task
+taskBy kind addr word last = record { kind = kindOf kind; addr = addr; word = word; last = last }
+
+tasked-sized : (kind addr word n last : ℕ) (m : List ℕ) → OpSized m → OpSized (tasked kind addr word n last m)
+tasked-sized kind addr word n last = by-words (λ m. OpSized (tasked kind addr word n last m)) (λ _ _ _ _ _ _ _ _ _ _ _ _. refl)
+
+module _ (kind addr word n last : ℕ) (t m : List ℕ) {u v : List ℕ} where
+  pub task-known : getD (tasked kind addr word n last m) 10 0 ≡ 1 → Accessed 4 5 4 addr t (tasked kind addr word n last m) u v
+      → Begun (ensuringTask (taskBy kind addr word last) n) t m u v
+  task-known e a ws f = record { tree = λ b k. here b k ∙ there .tree b k; fits = there .fits; counted = there .counted }
+    where
+      m₅ : List ℕ → List ℕ
+      m₅ m = tasked kind addr word n last m
+
+      there : Begins (λ k. apAccess 5 4 addr (inPhase 4 (m₅ m) k)) (m₅ m) ws u v
+      there = a (omega arith) (f .0, tasked-sized kind addr word n last m (f .1)) ws
+
+      here : (b : List ℕ) (k : Then) → ensuringTask (taskBy kind addr word last) n k (stands m ws b) ≡ apAccess 5 4 addr (inPhase 4 (m₅ m) k) (stands (m₅ m) ws b)
+      here b k = by-words (λ m. getD (m₅ m) 10 0 ≡ 1
+          → ensuringTask (taskBy kind addr word last) n k (stands m ws b) ≡ apAccess 5 4 addr (inPhase 4 (m₅ m) k) (stands (m₅ m) ws b))
+          (λ m₀ m₁ m₂ m₃ m₄ m₅ m₆ m₇ m₈ m₉ m₁₀ m₁₁ e. simp (eq-eqb _ _ e)) m (f .1) e
+
+  pub task-unknown : (getD (tasked kind addr word n last m) 10 0 ≡ 1 → ⊥) → Accessed 3 1 0 CSW-DEFAULT t (tasked kind addr word n last m) u v
+      → Begun (ensuringTask (taskBy kind addr word last) n) t m u v
+  task-unknown e a ws f = record { tree = λ b k. here b k ∙ there .tree b k; fits = there .fits; counted = there .counted }
+    where
+      m₅ : List ℕ → List ℕ
+      m₅ m = tasked kind addr word n last m
+
+      there : Begins (λ k. apAccess 1 0 CSW-DEFAULT (inPhase 3 (m₅ m) k)) (m₅ m) ws u v
+      there = a (omega arith) (f .0, tasked-sized kind addr word n last m (f .1)) ws
+
+      here : (b : List ℕ) (k : Then) → ensuringTask (taskBy kind addr word last) n k (stands m ws b) ≡ apAccess 1 0 CSW-DEFAULT (inPhase 3 (m₅ m) k) (stands (m₅ m) ws b)
+      here b k = by-words (λ m. (getD (m₅ m) 10 0 ≡ 1 → ⊥)
+          → ensuringTask (taskBy kind addr word last) n k (stands m ws b) ≡ apAccess 1 0 CSW-DEFAULT (inPhase 3 (m₅ m) k) (stands (m₅ m) ws b))
+          (λ m₀ m₁ m₂ m₃ m₄ m₅ m₆ m₇ m₈ m₉ m₁₀ m₁₁ e. simp (ne-eqb _ _ e)) m (f .1) e
+
+-- the same tree
+pub goes-as : {w v : List ℕ → Then → Wire} {r : Went} {t m ws : List ℕ} → ((b : List ℕ) (k : Then) → w b k ≡ v b k) → Goes v r t m ws → Goes w r t m ws
+goes-as e g = record { tree = λ b k. e b k ∙ g .tree b k; fits = g .fits; counted = g .counted }
+
+pub value-pushes : (m ws : List ℕ) (v more : ℕ) → noneBelow 9 (getD m 0 0) → more ≡ getD m 1 0 - 1
+    → (b : List ℕ) (k : Then) → valueTree m v ws b k ≡ push (getD m 2 0) more k (stands m ws b)
+value-pushes m ws v more n e b k =
+    ap (λ (x : Phase). phaseAfter x (taskOf m) (getD m 1 0) k (stands m ws b) (Value v)) (sym (past-rows P.phases (getD m 0 0) P.Push n))
+    ∙ ap (λ (x : ℕ). push (getD m 2 0) x k (stands m ws b)) (sym e)
+
+-- the value of an access, and of the SELECT before it
+pub ended-value : (m ws : List ℕ) (v : ℕ) → getD m 0 0 < 16 → (b : List ℕ) (k : Then) → endedTree m (Value v) ws b k ≡ valueTree m v ws b k
+ended-value m ws v l b k =
+    ap (λ (x : Bool). stageAfter x (reachOf m) (opAfter (doingOf m) k) (stands m ws b) (Value v)) (lt-leb 16 (getD m 0 0) l)
+    ∙ ap (λ (x : ℕ). phaseAfter (phaseOf x) (taskOf m) (getD m 1 0) k (stands m ws b) (Value v)) (mod16 (getD m 0 0) l)
+
+pub ended-selects : (t m : List ℕ) {u w : List ℕ} (v : ℕ) (ws : List ℕ) → 16 ≤ getD m 0 0
+    → (u ≡ begun (getD m 6 0) (getD m 7 0) t) × (w ≡ selectStands m) → Fits t m → Goes (endedTree m (Value v) ws) Moving u w ws
+ended-selects t m {u} {w} v ws l g f =
+    subst (λ (x : List ℕ). Goes (endedTree m (Value v) ws) Moving x w ws) (sym (g .0))
+    (subst (λ (x : List ℕ). Goes (endedTree m (Value v) ws) Moving (begun (getD m 6 0) (getD m 7 0) t) x ws) (sym (g .1)) (record {
+      tree = λ b k. by-words (λ m. 16 ≤ getD m 0 0
+          → endedTree m (Value v) ws b k ≡ startedTree (begun (getD m 6 0) (getD m 7 0) t) (selectStands m) k (stands (selectStands m) ws b))
+          (λ m₀ m₁ m₂ m₃ m₄ m₅ m₆ m₇ m₈ m₉ m₁₀ m₁₁ l. simp (le-leb 16 m₀ l) (simp (lt-leb 16 (m₀ % 16) (omega arith)) (simp (twice m₀) (begun-is m₆ m₇ t (f .0) _ _))))
+          m (f .1) l;
+      fits = (begun-sized _ _ t (f .0), by-words (λ m. OpSized (selectStands m)) (λ _ _ _ _ _ _ _ _ _ _ _ _. refl) m (f .1));
+      counted = begun-counted _ _ t (f .0);
+    }))
+  where
+    twice : (n : ℕ) → n % 16 % 16 ≡ n % 16
+    twice n = omega arith
+
+pub ended-fails : (m ws : List ℕ) (e : ArmError) (b : List ℕ) (k : Then) → endedTree m (Failed e) ws b k ≡ k (stands m ws b) (Failed e)
+ended-fails m ws e b k =
+    stage-fails (reachOf m .selecting) (reachOf m) (opAfter (doingOf m) k) (stands m ws b) e
+    ∙ fails (doingOf m .phase) (doingOf m .task) (doingOf m .left) k (stands m ws b) e
+
+-- the transport call in flight goes on, or it is over
+pub step-again : (t m u ws : List ℕ) (a : Answer) {r : WW.Went} → W.Goes (λ s k. follow (transferTree s (transferOf t) k) a) r u → r ≡ Again → OpSized m
+    → Goes (stepTree t m a ws) Moving u m ws
+step-again t m u ws a {r} g e h = record { tree = λ b k. again .tree (stands m ws b) _; fits = (g .sized, h); counted = again .counted }
+  where
+    again : W.Goes (λ s k. follow (transferTree s (transferOf t) k) a) Again u
+    again = subst (λ (x : WW.Went). W.Goes (λ s k. follow (transferTree s (transferOf t) k) a) x u) e g
+
+pub step-ended : (t m u ws : List ℕ) (a : Answer) (o : Outcome) {r : WW.Went} {x : Went} {t′ m′ ws′ : List ℕ}
+    → W.Goes (λ s k. follow (transferTree s (transferOf t) k) a) r u → r ≡ Ended o → Goes (endedTree m o ws) x t′ m′ ws′ → Goes (stepTree t m a ws) x t′ m′ ws′
+step-ended t m u ws a o {r} g e h = goes-as (λ b k. ended .tree (stands m ws b) _) h
+  where
+    ended : W.Goes (λ s k. follow (transferTree s (transferOf t) k) a) (Ended o) u
+    ended = subst (λ (x : WW.Went). W.Goes (λ s k. follow (transferTree s (transferOf t) k) a) x u) e g

@@ -1,0 +1,85 @@
+-- The words of an operation in flight, and what they stand for: every list of words has a meaning. Serves the proofs only.
+use Prim.Native.Nat.{ℕ, _%_}
+use mathlib.Core.Bool.{Bool}
+use mathlib.Core.List.{List, [], _∷_}
+use mathlib.Core.Path.{_≡_, subst}
+use lib.Dec.{eqb, leb}
+use lib.ListN.{length, getD}
+use Rattle.wire.specs.Wire.{Memory, memoryOf}
+use Rattle.wire.specs.Laws.Rows.{spelled}
+use Rattle.wire.specs.declared.Remembered.{Remembered}
+
+-- which access of an operation is in flight
+pub data Phase : Type 0 where
+  Only : Phase
+  Unit : Phase
+  Posted : Phase
+  Csw : Phase
+  Tar : Phase
+  Sent : Phase
+  First : Phase
+  Pull : Phase
+  Last : Phase
+  Push : Phase
+
+-- what is done once CSW and TAR stand
+pub data Kind : Type 0 where
+  ReadWord : Kind
+  WriteWord : Kind
+  ReadWords : Kind
+  WriteWords : Kind
+
+pub record Task : Type 0 where
+  pub kind : Kind
+  pub addr : ℕ
+  pub word : ℕ
+  pub last : ℕ
+
+pub record Doing : Type 0 where
+  pub phase : Phase
+  pub left : ℕ
+  pub task : Task
+
+-- what follows an access's transfer: while `selecting`, the transfer `request` with `word`; `select` is what SELECT becomes
+pub record Reach : Type 0 where
+  pub selecting : Bool
+  pub select : ℕ
+  pub request : ℕ
+  pub word : ℕ
+
+abbrev pub phases : List Phase
+phases = Only ∷ Unit ∷ Posted ∷ Csw ∷ Tar ∷ Sent ∷ First ∷ Pull ∷ Last ∷ []
+
+abbrev pub phaseOf : ℕ → Phase
+phaseOf n = getD phases n Push
+
+abbrev pub kinds : List Kind
+kinds = ReadWord ∷ WriteWord ∷ ReadWords ∷ []
+
+abbrev pub kindOf : ℕ → Kind
+kindOf n = getD kinds n WriteWords
+
+abbrev pub taskOf : List ℕ → Task
+taskOf m = record { kind = kindOf (getD m 3 0); addr = getD m 4 0; word = getD m 5 0; last = getD m 2 0 }
+
+-- a phase of 16 and more: SELECT is in flight
+abbrev pub doingOf : List ℕ → Doing
+doingOf m = record { phase = phaseOf (getD m 0 0 % 16); left = getD m 1 0; task = taskOf m }
+
+abbrev pub reachOf : List ℕ → Reach
+reachOf m = record { selecting = leb 16 (getD m 0 0); select = getD m 8 0; request = getD m 6 0; word = getD m 7 0 }
+
+abbrev pub rememberedOf : List ℕ → Remembered
+rememberedOf m = record { select = getD m 9 0; csw = eqb (getD m 10 0) 1; apsel = getD m 11 0 % 256 }
+
+-- what stands while an operation is in flight
+abbrev pub stands : List ℕ → List ℕ → List ℕ → Memory
+stands m ws buf = memoryOf (rememberedOf m) ws buf
+
+abbrev pub OpSized : List ℕ → Type 0
+OpSized m = length m ≡ 12
+
+-- a list of twelve words is its twelve words
+pub by-words : (Q : List ℕ → Type 0)
+    → ((a b c d e f g h i j k l : ℕ) → Q (a ∷ b ∷ c ∷ d ∷ e ∷ f ∷ g ∷ h ∷ i ∷ j ∷ k ∷ l ∷ [])) → (m : List ℕ) → OpSized m → Q m
+by-words Q q m s = subst Q (spelled 12 m s) (q _ _ _ _ _ _ _ _ _ _ _ _)
