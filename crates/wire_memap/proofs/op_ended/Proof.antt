@@ -11,5 +11,5 @@ op-ended-spec =
     (λ c f. let a = c .before .before .before .before .before .before .before .before .before .before .before .before .args in goes-as (λ b k. simp (c .before .before .before .before .before .before .before .before .before .o .given .1) (ended-value (a .m .now) (a .row .now) _ (c .before .before .before .before .before .before .if1 .taken) b k))
     (c .before .before .value-after .ensures (c .before .before .before .before .before .before .if1 .taken) f))
     (λ c κs. search needs) (λ c. search needs)
-    (λ c f. let a = c .before .before .before .before .before .before .before .before .before .args in goes-as (λ b k. simp (c .before .before .before .before .before .before .o .given .1)) (ended-selects (a .t .now) (a .m .now) (c .before .before .before .before .before .before .o .given .0) (a .row .now) (c .before .before .before .if1 .left) (c .selected .ensures) f))
+    (λ c f. let a = c .before .before .before .before .before .before .before .before .before .args in goes-as (λ b k. simp (c .before .before .before .before .before .before .o .given .1)) (ended-selects (a .t .now) (a .m .now) (c .before .before .before .before .before .before .o .given .0 .0) (a .row .now) (c .before .before .before .if1 .left) (c .selected .ensures) f))
     (λ c f. let a = c .before .before .before .before .args in ends-with f (λ b k. simp (c .before .o2 .given .1) (ended-fails (a .m .now) (a .row .now) _ b k))))
