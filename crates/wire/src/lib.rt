@@ -35,7 +35,7 @@ pub enum Pattern {
 // A transport call, as `DapTransport` has them.
 pub enum Call {
     Transfer {
-        request: u32,
+        request: u8,
         word: u32,
     },
     Connect,
@@ -247,7 +247,7 @@ pub fn begin_raw(t: &mut [u32; 7], c: Call)
     ensures { λ _. ⌜ (Sized (now (t .entry)) → ((m : Memory) (k : Outcome → Wire) → raw m c k ≡ transferTree m (transferOf (now (t .exit))) k) × Sized (now (t .exit)) × Counted (now (t .exit))) ⌝ }
 {
     match c {
-        Call::Transfer { request, word } => once(t, TRANSFER, request, 0, word),
+        Call::Transfer { request, word } => once(t, TRANSFER, wide(request), 0, word),
         Call::Connect => once(t, CONNECT, 0, 0, 0),
         Call::Sequence(p) => once(t, SEQUENCE, pattern_no(p), 0, 0),
         Call::Pins {
@@ -365,7 +365,7 @@ pub fn due(t: &[u32; 7]) -> Call
     let word = t[WORD];
     match kind {
         0 => Call::Transfer {
-            request: byte,
+            request: (byte % 256) as u8,
             word: word,
         },
         1 => Call::Connect,

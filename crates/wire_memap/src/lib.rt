@@ -4,7 +4,7 @@
 
 // Registers of the two ports with the SELECT and CSW caches, words and runs of words, each transfer by transfer.
 ghost use mathlib.Core.Path.{_≡_};
-ghost use Prim.Native.Nat.{_-_, _<_};
+ghost use Prim.Native.Nat.{_-_, _<_, _≤_};
 ghost use lib.ListN.{set, getD};
 ghost use Rattle.wire.specs.Laws.Flight.{begun};
 ghost use Rattle.wire_memap.specs.Ports.{selectOf, a32};
@@ -357,7 +357,7 @@ fn task_start(
 
 // A2 and A3 of an address.
 fn a32(addr: u8) -> u32
-    ensures { λ r. ⌜ r ≡ a32 addr ⌝ }
+    ensures { λ r. ⌜ (r ≡ a32 addr) × (r ≤ 12) ⌝ }
 {
     (addr as u32) % 16 / 4 * 4
 }

@@ -41,7 +41,7 @@ modeOf n = getD modes n raw
 
 -- a transport call by its kind, two bytes and a word
 abbrev pub calls : ℕ → ℕ → ℕ → List Call
-calls a b w = C.Transfer a w ∷ C.Connect ∷ C.Sequence (patternAt a) ∷ C.Pins (a % 256) (b % 256) w ∷ C.WriteBits (a % 256) w ∷ []
+calls a b w = C.Transfer (a % 256) w ∷ C.Connect ∷ C.Sequence (patternAt a) ∷ C.Pins (a % 256) (b % 256) w ∷ C.WriteBits (a % 256) w ∷ []
 
 abbrev pub callOf : ℕ → ℕ → ℕ → ℕ → Call
 callOf kind a b w = getD (calls a b w) kind C.OutputEnable
@@ -109,9 +109,9 @@ by-words Q q t s = subst Q (spelled 7 t s) (q _ _ _ _ _ _ _)
 
 -- what the stores leave
 pub begun-is : (request word : ℕ) (t : List ℕ) → Sized t → (m : Memory) (k : Outcome → Wire)
-    → transfer m request word k ≡ transferTree m (transferOf (begun request word t)) k
+    → transfer m (request % 256) word k ≡ transferTree m (transferOf (begun request word t)) k
 unfolding transfer tries
-begun-is request word = by-words (λ t. (m : Memory) (k : Outcome → Wire) → transfer m request word k ≡ transferTree m (transferOf (begun request word t)) k)
+begun-is request word = by-words (λ t. (m : Memory) (k : Outcome → Wire) → transfer m (request % 256) word k ≡ transferTree m (transferOf (begun request word t)) k)
     (λ a b c d e f g m k. refl)
 
 pub raw-is : (kind x y word : ℕ) (t : List ℕ) → Sized t → (m : Memory) (k : Outcome → Wire)
@@ -210,6 +210,9 @@ pattern-back p n h = subst (λ (i : ℕ). p ≡ patternAt i) (sym h) (back p)
     back P.SelectionAlert = refl
     back P.AlertIdle = refl
     back P.SwdActivation = refl
+
+pub transfer-back : (x : ℕ) {r word : ℕ} → x % 256 ≡ r → C.Transfer r word ≡ C.Transfer (x % 256) word
+transfer-back x e = simp e refl
 
 pub pins-back : (x y : ℕ) {o s wait : ℕ} → x % 256 ≡ o → y % 256 ≡ s → C.Pins o s wait ≡ C.Pins (x % 256) (y % 256) wait
 pins-back x y e f = simp (e, f) refl

@@ -1,26 +1,26 @@
 -- The operation makes the definition compute to its first access, which the callee begins.
 use native.Mathlib.Omega.{arith}
 use Rattle.wire_memap.specs.Ops.{perform}
-use Rattle.wire_memap.specs.Laws.Flight.{begins-of, direct-on}
+use Rattle.wire_memap.specs.Laws.Flight.{begins-of, direct-on, byte-request, byte-address}
 use borrow.Author.Needs.{needs}
 use Rattle.wire_memap.proofs.op_start.Statement.{statement}
 use Rattle.wire_memap.proofs.op_start.Tie as tie
 
 returns : tie.Need-returns
 unfolding perform
-returns c ws f = let a = c .before .before .before .before .before .before .before .args in begins-of (λ b k. simp (c .before .before .before .before .before .op .given .1) (simp (c .before .a32 .ensures))) (direct-on 0 _ 0 (a .t .now) (a .m .now) ws (omega arith) (c .direct .ensures) f)
+returns c ws f = let a = c .before .before .before .before .before .before .before .args in begins-of (λ b k. simp (c .before .before .before .before .before .op .given .1) (simp (byte-request 2 _ _ (c .before .a32 .ensures .0) (c .before .a32 .ensures .1) (omega arith)))) (direct-on 0 _ 0 (a .t .now) (a .m .now) ws (omega arith) (c .direct .ensures) f)
 
 returns-2 : tie.Need-returns-2
 unfolding perform
-returns-2 c ws f = let a = c .before .before .before .before .before .before .before .args in begins-of (λ b k. simp (c .before .before .before .before .before .op2 .given .1) (simp (c .before .a322 .ensures))) (direct-on 1 _ _ (a .t .now) (a .m .now) ws (omega arith) (c .direct2 .ensures) f)
+returns-2 c ws f = let a = c .before .before .before .before .before .before .before .args in begins-of (λ b k. simp (c .before .before .before .before .before .op2 .given .1) (simp (byte-address _ _ (c .before .a322 .ensures .0) (c .before .a322 .ensures .1)))) (direct-on 1 _ _ (a .t .now) (a .m .now) ws (omega arith) (c .direct2 .ensures) f)
 
 returns-3 : tie.Need-returns-3
 unfolding perform
-returns-3 c ws f = begins-of (λ b k. simp (c .before .before .before .before .before .op3 .given .1) (simp (c .before .a323 .ensures))) (c .access .ensures (omega arith) f ws)
+returns-3 c ws f = begins-of (λ b k. simp (c .before .before .before .before .before .op3 .given .1) (simp (byte-request 3 _ _ (c .before .a323 .ensures .0) (c .before .a323 .ensures .1) (omega arith)))) (c .access .ensures (omega arith) f ws)
 
 returns-4 : tie.Need-returns-4
 unfolding perform
-returns-4 c ws f = begins-of (λ b k. simp (c .before .before .before .before .before .op4 .given .1) (simp (c .before .a324 .ensures))) (c .access2 .ensures (omega arith) f ws)
+returns-4 c ws f = begins-of (λ b k. simp (c .before .before .before .before .before .op4 .given .1) (simp (byte-request 1 _ _ (c .before .a324 .ensures .0) (c .before .a324 .ensures .1) (omega arith)))) (c .access2 .ensures (omega arith) f ws)
 
 returns-5 : tie.Need-returns-5
 unfolding perform

@@ -67,7 +67,7 @@ abbrev pub doingOf : List ℕ → Doing
 doingOf m = record { phase = phaseOf (getD m 0 0 % 16); left = getD m 1 0; task = taskOf m }
 
 abbrev pub reachOf : List ℕ → Reach
-reachOf m = record { selecting = leb 16 (getD m 0 0); select = getD m 8 0; request = getD m 6 0; word = getD m 7 0 }
+reachOf m = record { selecting = leb 16 (getD m 0 0); select = getD m 8 0; request = getD m 6 0 % 256; word = getD m 7 0 }
 
 abbrev pub rememberedOf : List ℕ → Remembered
 rememberedOf m = record { select = getD m 9 0; csw = eqb (getD m 10 0) 1; apsel = getD m 11 0 % 256 }

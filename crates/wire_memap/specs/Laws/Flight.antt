@@ -146,7 +146,7 @@ inPhase n m k = phaseAfter (phaseOf n) (taskOf m) (getD m 1 0) k
 
 abbrev pub Accessed : ℕ → ℕ → ℕ → ℕ → List ℕ → List ℕ → List ℕ → List ℕ → Type 0
 Accessed n request addr word t₀ m₀ t m =
-    n < 16 → Fits t₀ m₀ → (ws : List ℕ) → Begins (λ k. apAccess request addr word (inPhase n m₀ k)) m₀ ws t m
+    n < 16 → Fits t₀ m₀ → (ws : List ℕ) → Begins (λ k. apAccess (request % 256) addr word (inPhase n m₀ k)) m₀ ws t m
 
 mod16 : (n : ℕ) → n < 16 → n % 16 ≡ n
 mod16 n l = omega (arith, l)
@@ -155,10 +155,10 @@ mod16-up : (n : ℕ) → n < 16 → (n + 16) % 16 ≡ n
 mod16-up n l = omega (arith, l)
 
 pub direct-begins : (n request word : ℕ) (t m ws : List ℕ) → n < 16 → Fits t m
-    → Begins (λ k. transferring request word (inPhase n m k)) m ws (begun request word t) (set m 0 n)
+    → Begins (λ k. transferring (request % 256) word (inPhase n m k)) m ws (begun request word t) (set m 0 n)
 direct-begins n request word t m ws l f = record {
   tree = λ b k. by-words
-      (λ m. transferring request word (inPhase n m k) (stands m ws b) ≡ startedTree (begun request word t) (set m 0 n) k (stands (set m 0 n) ws b))
+      (λ m. transferring (request % 256) word (inPhase n m k) (stands m ws b) ≡ startedTree (begun request word t) (set m 0 n) k (stands (set m 0 n) ws b))
       (λ m₀ m₁ m₂ m₃ m₄ m₅ m₆ m₇ m₈ m₉ m₁₀ m₁₁. rw (mod16 n l) (rw (lt-leb 16 n l) (begun-is request word t (f .0) _ _)))
       m (f .1);
   fits = (begun-sized request word t (f .0), length-set m 0 n ∙ f .1);
@@ -166,11 +166,11 @@ direct-begins n request word t m ws l f = record {
 }
 
 select-begins : (n request word s : ℕ) (t m ws : List ℕ) → n < 16 → Fits t m
-    → Begins (λ k. transferring 8 s (stageAfter true (record { selecting = true; select = s; request = request; word = word }) (inPhase n m k))) m ws
+    → Begins (λ k. transferring 8 s (stageAfter true (record { selecting = true; select = s; request = request % 256; word = word }) (inPhase n m k))) m ws
     (begun 8 s t) (waiting n request word s m)
 select-begins n request word s t m ws l f = record {
   tree = λ b k. by-words
-      (λ m. transferring 8 s (stageAfter true (record { selecting = true; select = s; request = request; word = word }) (inPhase n m k)) (stands m ws b)
+      (λ m. transferring 8 s (stageAfter true (record { selecting = true; select = s; request = request % 256; word = word }) (inPhase n m k)) (stands m ws b)
       ≡ startedTree (begun 8 s t) (waiting n request word s m) k (stands (waiting n request word s m) ws b))
       (λ m₀ m₁ m₂ m₃ m₄ m₅ m₆ m₇ m₈ m₉ m₁₀ m₁₁. rw (mod16 n l) (rw (mod16-up n l) (rw (le-leb 16 (n + 16) (omega arith)) (begun-is 8 s t (f .0) _ _))))
       m (f .1);
@@ -280,7 +280,7 @@ abbrev pub selectStands : List ℕ → List ℕ
 selectStands m = set (set m 9 (getD m 8 0)) 0 (getD m 0 0 % 16)
 
 pub direct-on : (n request word : ℕ) (t m ws : List ℕ) {u v : List ℕ} → n < 16 → (u ≡ begun request word t) × (v ≡ set m 0 n) → Fits t m
-    → Begins (λ k. transferring request word (inPhase n m k)) m ws u v
+    → Begins (λ k. transferring (request % 256) word (inPhase n m k)) m ws u v
 direct-on n request word t m ws l g f = begins-as g (direct-begins n request word t m ws l f)
 
 -- a call that is no transfer
@@ -398,3 +398,10 @@ step-ended t m u ws a o {r} g e h = goes-as (λ b k. ended .tree (stands m ws b)
   where
     ended : W.Goes (λ s k. follow (transferTree s (transferOf t) k) a) (Ended o) u
     ended = subst (λ (x : WW.Went). W.Goes (λ s k. follow (transferTree s (transferOf t) k) a) x u) e g
+
+-- a request is a byte
+pub byte-request : (n r a : ℕ) → r ≡ a → r ≤ 12 → n ≤ 3 → (n + r) % 256 ≡ n + a
+byte-request n r a e l h = omega (arith, e, l, h)
+
+pub byte-address : (r a : ℕ) → r ≡ a → r ≤ 12 → r % 256 ≡ a
+byte-address r a e l = omega (arith, e, l)
