@@ -233,9 +233,7 @@ fn revision_on(clears: bool, addr: u32, ctrl: u32) -> FpbAsks
                 clears: clears,
                 value: value,
             },
-            Op::ReadWord {
-                addr: fpb::FP_CTRL,
-            },
+            Op::ReadWord { addr: fpb::FP_CTRL },
         ),
     }
 }
@@ -314,27 +312,21 @@ pub fn start(c: FpbCall) -> FpbAsks
     match c {
         FpbCall::HwBreakpointSet(addr) => doing(
             FpbAt::SetCtrl(addr),
-            Op::ReadWord {
-                addr: fpb::FP_CTRL,
-            },
+            Op::ReadWord { addr: fpb::FP_CTRL },
         ),
         FpbCall::HwBreakpointClear(addr) => doing(
             FpbAt::Revision {
                 clears: true,
                 addr: addr,
             },
-            Op::ReadWord {
-                addr: fpb::FP_CTRL,
-            },
+            Op::ReadWord { addr: fpb::FP_CTRL },
         ),
         FpbCall::HwBreakpointAt(addr) => doing(
             FpbAt::Revision {
                 clears: false,
                 addr: addr,
             },
-            Op::ReadWord {
-                addr: fpb::FP_CTRL,
-            },
+            Op::ReadWord { addr: fpb::FP_CTRL },
         ),
     }
 }

@@ -9,6 +9,7 @@ use native.Mathlib.Omega.{arith}
 use native.Mathlib.Nat.{le-of-suc-le-suc, not-suc-le-zero}
 use lib.Dec.{eqb}
 use borrow.Author.Tests.{ne-eqb}
+use Rattle.wire.specs.Laws.Numbers.{less}
 use Rattle.wire.specs.Wire.{Wire, Memory, memoryOf, ask, play, Ending, ended}
 use Rattle.wire.specs.Transfer.{transfer, tries, raw}
 use Rattle.wire.specs.declared.Call.{Call}
@@ -72,9 +73,6 @@ polling k v m = exec (attempt (pollAcks k) (orFail (λ (_ : ℕ). return v))) m
 
 abbrev polled : Bool → ℕ → ℕ → Memory → Wire
 polled acks k v m = exec (attempt (cond acks (return 0) (pollAcks k)) (orFail (λ (_ : ℕ). return v))) m
-
-less : (n : ℕ) → n ≡ suc n - 1
-less n = omega arith
 
 no-acks : (t : Target) (n : ℕ) → bothAcks (ctrlStat (asked t (suc n))) ≡ false
 no-acks t n = ap (λ (b : Bool). bothAcks (0x10000000 + 0x40000000 + pick b 0xA0000000 0 + 0)) (ne-eqb (suc n) 0 (λ h. omega arith))
