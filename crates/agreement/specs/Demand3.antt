@@ -20,7 +20,7 @@ use Rattle.target.specs.declared.Target.{Target}
 use Rattle.target.specs.declared.Act.{Act}
 use Rattle.target.specs.declared.Byte.{Byte}
 use Rattle.target.specs.declared.Byte.the-variants as B
-use Rattle.target_run.specs.Talk.{Talk, talk, silent}
+use Rattle.target_line.specs.Talk.{Talk, talk, silent}
 use Rattle.session_rules.specs.Admits.{isConnect, refusal}
 use Rattle.session_phase.specs.Phase.{loss}
 use Rattle.session_rules.specs.Session.{Standing, closed, Called, called, checked, sessionTree}

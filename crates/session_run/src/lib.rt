@@ -2,7 +2,7 @@
 ghost use mathlib.Core.Path.{_≡_};
 ghost use Prim.Native.Nat.{min};
 ghost use lib.ListN.{length, drop, set};
-ghost use Rattle.target_run.specs.Talk.{actNow, actsThen};
+ghost use Rattle.target_line.specs.Talk.{actNow, actsThen};
 ghost use Rattle.agreement.specs.Demand3.{made, history};
 ghost use Rattle.session_run.specs.Ran.{moment, item, CallRuns};
 ghost use Rattle.session_run.specs.Items.{codeOf, actsOf, itemsOf, ListRuns};

@@ -10,7 +10,7 @@ use Rattle.target.specs.WellFormed.{WellFormed}
 use Rattle.target.specs.Laws.WellFormed.{well-line}
 use Rattle.target.specs.declared.Target.{Target}
 use Rattle.target.specs.declared.Act.{Act}
-use Rattle.target_run.specs.Talk.{Talk, talk, actNow, actsThen}
+use Rattle.target_line.specs.Talk.{Talk, talk, actNow, actsThen}
 use Rattle.engine_calls.specs.Calls.{jobOf}
 use Rattle.session_rules.specs.Admits.{engineCall, isConnect, refusal}
 use Rattle.session_phase.specs.Phase.{rememberedFor, opensAfter}

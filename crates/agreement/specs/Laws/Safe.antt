@@ -9,7 +9,7 @@ use Rattle.wire.specs.declared.Outcome.{Outcome}
 use Rattle.target.specs.Line.{line}
 use Rattle.target.specs.declared.Target.{Target}
 use Rattle.target.specs.declared.Act.{Act}
-use Rattle.target_run.specs.Talk.{Talk, talk, actNow, actsThen}
+use Rattle.target_line.specs.Talk.{Talk, talk, actNow, actsThen}
 use Rattle.session_phase.specs.Phase.{loss}
 use Rattle.session_rules.specs.Session.{lostIn}
 

@@ -19,7 +19,7 @@ use Rattle.engine.specs.Step.{memoryIn}
 use Rattle.engine.specs.Laws.Step.{Waits}
 use Rattle.target.specs.declared.Target.{Target}
 use Rattle.target.specs.declared.Act.{Act}
-use Rattle.target_run.specs.Talk.{Talk, talk, silent}
+use Rattle.target_line.specs.Talk.{Talk, talk, silent}
 use Rattle.session_rules.specs.Admits.{engineCall, isConnect, refusal}
 use Rattle.session_phase.specs.Phase.{opensAfter, isOpen, connects, phaseAfter}
 use Rattle.session_phase.specs.Laws.Phase.{open-phase}

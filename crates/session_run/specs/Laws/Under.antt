@@ -28,7 +28,7 @@ use Rattle.engine.specs.declared.State.{State}
 use Rattle.target.specs.Line.{line}
 use Rattle.target.specs.declared.Target.{Target}
 use Rattle.target.specs.declared.Act.{Act}
-use Rattle.target_run.specs.Talk.{Talk, talk, actNow, actsThen}
+use Rattle.target_line.specs.Talk.{Talk, talk, actNow, actsThen}
 use Rattle.session_rules.specs.Admits.{refusal}
 use Rattle.session_phase.specs.Phase.{isOpen}
 use Rattle.session_rules.specs.Session.{kindOf}

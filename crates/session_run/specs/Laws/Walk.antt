@@ -12,7 +12,7 @@ use Rattle.wire.specs.declared.Outcome.{Outcome}
 use Rattle.target.specs.Line.{line}
 use Rattle.target.specs.declared.Target.{Target}
 use Rattle.target.specs.declared.Act.{Act}
-use Rattle.target_run.specs.Talk.{Talk, talk, silent, heardFirst, actNow, actsThen}
+use Rattle.target_line.specs.Talk.{Talk, talk, silent, heardFirst, actNow, actsThen}
 use Rattle.engine.specs.Step.{memoryIn}
 use Rattle.engine.specs.Laws.Step.{Waits}
 use Rattle.session_phase.specs.Phase.{loss}

@@ -33,7 +33,7 @@ use Rattle.target.specs.declared.Register.the-variants.{Dp}
 use Rattle.target.specs.declared.DpRegister.the-variants as D
 use Rattle.target.specs.declared.Target.{Target}
 use Rattle.target.specs.declared.Act.the-variants.{Deliver}
-use Rattle.target_run.specs.Talk.{talk}
+use Rattle.target_line.specs.Talk.{talk}
 use Rattle.test_cases.specs.Laws.Given.{Ends, connecting, Ready, row}
 
 -- how the tree w ends over the target t under the budget n
