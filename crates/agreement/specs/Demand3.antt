@@ -1,12 +1,12 @@
 -- Demand 3: what is claimed of every list of session calls over target and line (01: "The session").
-use Prim.Native.Nat.{ℕ, _+_, _-_, _<_, _≤_}
+use Prim.Native.Nat.{ℕ, _+_, _-_, _<_}
 use mathlib.Core.Bool.{Bool, true, false, not, _&&_, _||_}
 use mathlib.Core.List.{List, [], _∷_}
 use mathlib.Core.Path.{_≡_}
 use lib.Dec.{eqb, leb, ltb}
 use lib.ListN.{length, getD, drop}
 use Rattle.wire.specs.Bytes.{leBytes}
-use Rattle.wire.specs.Wire.{Ending, ended, spent, succeeds}
+use Rattle.wire.specs.Wire.{ended, spent, succeeds}
 use Rattle.wire.specs.declared.Call.{Call}
 use Rattle.wire.specs.declared.Call.the-variants as W
 use Rattle.wire.specs.declared.Answer.{Answer}
@@ -20,10 +20,10 @@ use Rattle.target.specs.declared.Target.{Target}
 use Rattle.target.specs.declared.Act.{Act}
 use Rattle.target.specs.declared.Byte.{Byte}
 use Rattle.target.specs.declared.Byte.the-variants as B
-use Rattle.target_run.specs.Talk.{Talk, talk, silent}
+use Rattle.target_line.specs.Talk.{Talk, talk, silent}
 use Rattle.session_rules.specs.Admits.{isConnect, refusal}
-use Rattle.session_phase.specs.Phase.{loss}
-use Rattle.session_rules.specs.Session.{Standing, closed, Called, called, checked, sessionTree}
+use Rattle.session_phase.specs.Phase.{loss, isSpent, opensAfter}
+use Rattle.session_rules.specs.Session.{Standing, closed, Result, refused, ran, succeeded, Called, called, checked, sessionTree}
 use Rattle.session_rules.specs.declared.SessionCall.{SessionCall}
 use Rattle.session_rules.specs.declared.SessionCall.the-variants as S
 use Rattle.session_rules.specs.declared.Check.{Check}
@@ -62,7 +62,7 @@ pub record Made : Type 0 where
 
 -- what the session hears during a call, and the target afterwards
 abbrev pub heardIf : Check → Moment → Item → List Act → Talk
-heardIf (Refuse e) x i acts = silent (x .target) (x .mem)
+heardIf (Refuse r) x i acts = silent (x .target) (x .mem)
 heardIf Pass x i acts = talk (sessionTree (x .standing) (i .call) (i .buf)) (i .budget) acts (x .target) (x .mem)
 
 -- a call, by what its checks came to
@@ -114,18 +114,11 @@ lossAmong abort (c ∷ calls) [] = false
 lossAmong true (c ∷ calls) (a ∷ answers) = lossAmong false calls answers
 lossAmong false (c ∷ calls) (a ∷ answers) = loss a || lossAmong (isTransfer c && aborts a) calls answers
 
-abbrev pub isSpent : Ending → Bool
-isSpent (ended o) = false
-isSpent spent = true
-
-abbrev pub closes : SessionCall → List Call → List Answer → Ending → Bool
-closes c calls answers e = isSpent e || (isConnect c && not (succeeds e)) || lossAmong false calls answers
-
-abbrev pub opens : SessionCall → Ending → Bool
-opens c e = isConnect c && succeeds e
-
-abbrev pub openNext : Bool → SessionCall → List Call → List Answer → Ending → Bool
-openNext was c calls answers e = not (closes c calls answers e) && (opens c e || was)
+-- a refused call leaves the session as it was; after one that ran it is open if that call closes nothing, and connects or found it open
+abbrev pub openNext : Bool → SessionCall → List Call → List Answer → Result → Bool
+openNext was c calls answers (refused x) = was
+openNext was c calls answers (ran e) =
+    opensAfter (isConnect c) (lossAmong false calls answers) (isSpent e) (succeeds e) && (isConnect c || was)
 
 unfoldable pub openAfter : Bool → List Made → Bool
 openAfter was [] = was
@@ -151,8 +144,8 @@ Gives x addr bytes = (i : ℕ) → i < length bytes → byte x (addr + i) ≡ B.
 -- a read of n bytes changes nothing, and one that succeeded gave n bytes, the target's
 pub record Reads (m : Made) (addr n : ℕ) (given : List ℕ) : Type 0 where
   pub same : (a : ℕ) → byte (m .after) a ≡ byte (m .before) a
-  pub whole : succeeds (m .came .ending) ≡ true → length given ≡ n
-  pub gives : succeeds (m .came .ending) ≡ true → Gives (m .before) addr given
+  pub whole : succeeded (m .came .ending) ≡ true → length given ≡ n
+  pub gives : succeeded (m .came .ending) ≡ true → Gives (m .before) addr given
 
 -- the byte at a that `new` from `addr` on makes of an old one
 abbrev pub renewed : ℕ → List ℕ → ℕ → Byte → Byte
@@ -169,14 +162,15 @@ pub data OldOrNew (m : Made) (addr : ℕ) (new : List ℕ) (a : ℕ) : Type 0 wh
   renew : New m addr new a → OldOrNew m addr new a
 
 pub record Writes (m : Made) (addr : ℕ) (new : List ℕ) : Type 0 where
-  pub whole : succeeds (m .came .ending) ≡ true → (a : ℕ) → byte (m .after) a ≡ renewed addr new a (byte (m .before) a)
+  pub whole : succeeded (m .came .ending) ≡ true → (a : ℕ) → byte (m .after) a ≡ renewed addr new a (byte (m .before) a)
   pub partly : (a : ℕ) → OldOrNew m addr new a
 
 -- the bytes that call 9 gives: those of its value
-abbrev pub valueBytes : Ending → List ℕ
-valueBytes (ended (Value v)) = leBytes v
-valueBytes (ended (Failed e)) = []
-valueBytes spent = []
+abbrev pub valueBytes : Result → List ℕ
+valueBytes (refused x) = []
+valueBytes (ran (ended (Value v))) = leBytes v
+valueBytes (ran (ended (Failed e))) = []
+valueBytes (ran spent) = []
 
 abbrev pub MemoryKept : SessionCall → Made → Type 0
 MemoryKept S.ConnectSwd m = Unit {0}

@@ -4,17 +4,12 @@
 use Prim.Native.Nat.{ℕ, zero, suc, _+_, _*_}
 use mathlib.Core.List.{List, _++_}
 use lib.ListN.{set, getD, take, drop}
-use lib.Seq.{sets}
-use Rattle.wire.specs.Bytes.{leBytes}
-
--- the word of the four bytes from place i on
-abbrev pub leWord : List ℕ → ℕ → ℕ
-leWord b i = getD b i 0 + 0x100 * getD b (i + 1) 0 + 0x10000 * getD b (i + 2) 0 + 0x1000000 * getD b (i + 3) 0
+use Rattle.wire.specs.Bytes.{leBytes, leWord, putWord}
 
 -- n words of the row, as bytes, at the front of b
 unfoldable pub storeWords : ℕ → List ℕ → List ℕ → List ℕ
 storeWords zero ws b = b
-storeWords (suc n) ws b = sets (storeWords n ws b) (4 * n) (leBytes (getD ws n 0))
+storeWords (suc n) ws b = putWord (storeWords n ws b) (4 * n) (getD ws n 0)
 
 -- n bytes of the word w, from its byte `skip` on, at the front of b
 unfoldable pub storePart : ℕ → ℕ → ℕ → List ℕ → List ℕ

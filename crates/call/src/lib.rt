@@ -9,8 +9,8 @@ ghost use Prim.Native.Nat.{_+_, _*_, _^_, _<_, min};
 ghost use lib.ListN.{length, set, getD, drop};
 ghost use lib.Seq.{sets};
 ghost use Rattle.wire.specs.Wire.{memoryOf};
-ghost use Rattle.wire.specs.Bytes.{leBytes};
-ghost use Rattle.call.specs.Bytes.{leWord, storeWords, storePart, loadWords, patchWord, fromPlace};
+ghost use Rattle.wire.specs.Bytes.{leBytes, leWord, putWord};
+ghost use Rattle.call.specs.Bytes.{storeWords, storePart, loadWords, patchWord, fromPlace};
 ghost use Rattle.call.specs.Change.{fresh, rememberedAfter, wordsAfter, bufAfter, changed, XPSR-THUMB};
 use wire::Outcome;
 use wire::Remembered;
@@ -180,7 +180,7 @@ fn byte_at(b: &[u8], i: usize) -> u8
 }
 
 // A word past the end reads 0.
-fn word_at(row: &[u32], i: usize) -> u32
+pub fn word_at(row: &[u32], i: usize) -> u32
     ensures { λ r. ⌜ r ≡ getD (now (row .entry)) i 0 ⌝ }
 {
     if i < row.len() {
@@ -201,7 +201,7 @@ fn poke(dst: &mut [u8], i: usize, b: u8)
 // A word, as bytes, from place i on: all four are inside.
 fn put_word(dst: &mut [u8], i: usize, w: u32)
     requires { ⌜ i + 3 < length (now dst) ⌝ }
-    ensures { λ _. ⌜ now (dst .exit) ≡ sets (now (dst .entry)) i (leBytes w) ⌝ }
+    ensures { λ _. ⌜ now (dst .exit) ≡ putWord (now (dst .entry)) i w ⌝ }
 {
     let b = le_bytes(w);
     dst[i] = b[0];
@@ -213,7 +213,7 @@ fn put_word(dst: &mut [u8], i: usize, w: u32)
 // The same where some may fall outside.
 fn put_last(dst: &mut [u8], i: usize, w: u32)
     requires { ⌜ i + 3 < 2 ^ 64 ⌝ }
-    ensures { λ _. ⌜ now (dst .exit) ≡ sets (now (dst .entry)) i (leBytes w) ⌝ }
+    ensures { λ _. ⌜ now (dst .exit) ≡ putWord (now (dst .entry)) i w ⌝ }
 {
     let b = le_bytes(w);
     poke(dst, i, b[0]);

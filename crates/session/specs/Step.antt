@@ -5,21 +5,20 @@ use mathlib.Core.List.{List, []}
 use mathlib.Core.Path.{_≡_}
 use lib.ListN.{length}
 use Rattle.wire.specs.Bytes.{padded}
-use Rattle.wire.specs.Wire.{Wire, Memory, memoryOf, done, ask, tell, follow, ended, succeeds}
+use Rattle.wire.specs.Wire.{Wire, memoryOf, done, ask, tell, follow, ended, succeeds}
 use Rattle.wire.specs.declared.Answer.{Answer}
-use Rattle.wire.specs.declared.ArmError.{ArmError}
-use Rattle.wire.specs.declared.ArmError.the-variants as E
-use Rattle.wire.specs.declared.Outcome.the-variants.{Failed}
-use Rattle.wire_numbers.specs.Results.{resultOf}
+use Rattle.wire_numbers.specs.Results.{endingOf}
+use Rattle.wire_numbers.specs.declared.CallEnding.{CallEnding}
 use Rattle.engine_calls.specs.Calls.{leave}
 use Rattle.engine.specs.Laws.State.{stateTree}
 use Rattle.engine.specs.Step.{nextOf, bytesOf, memoryIn, CountedIn}
-use Rattle.engine.specs.declared.NextStep.{NextStep}
 use Rattle.engine.specs.declared.NextStep.the-variants as N
-use Rattle.session_rules.specs.Admits.{refusal}
-use Rattle.session_phase.specs.Phase.{loss, isOpen, phaseAfter}
-use Rattle.session_rules.specs.Session.{Standing, sessionTree, kindOf, frameBy}
+use Rattle.session_rules.specs.Admits.{refusal, refusalNumber}
+use Rattle.session_phase.specs.Phase.{loss, isOpen, phaseEnded}
+use Rattle.session_rules.specs.Session.{Standing, sessionTree, kindOf, frameBy, Result, refused, ran}
 use Rattle.session_rules.specs.declared.SessionCall.{SessionCall}
+use Rattle.session_rules.specs.declared.Refusal.{Refusal}
+use Rattle.session_rules.specs.declared.Refusal.the-variants as R
 use Rattle.session_rules.specs.declared.Check.{Check}
 use Rattle.session_rules.specs.declared.Check.the-variants.{Pass, Refuse}
 use Rattle.session_phase.specs.declared.Kind.{Kind}
@@ -33,7 +32,7 @@ abbrev pub standing : Session → Standing
 standing s = record { isOpen = isOpen (s .phase); remembered = s .state .remembered; frame = s .frame }
 
 abbrev pub phaseIn : Kind → Bool → Wire → Phase
-phaseIn kind lost (done m o) = phaseAfter kind lost o
+phaseIn kind lost (done m o) = phaseEnded kind lost (succeeds (ended o))
 phaseIn kind lost (ask m c f) = P.Running kind lost
 phaseIn kind lost (tell m c w) = P.Running kind lost
 
@@ -52,16 +51,21 @@ pub record Answers (kind : Kind) (lost : Bool) (before : List ℕ) (w : Wire) (s
   pub tree : w ≡ stateTree (s .state) (s .row) buf
   pub counted : CountedIn (s .state .status) (s .state .started .launched .transfer)
 
+-- a result as 01's number and value
+abbrev pub reported : Result → CallEnding
+reported (refused x) = record { number = refusalNumber x; value = 0 }
+reported (ran e) = endingOf e
+
 -- nothing is changed, and no transport call is due
-pub record Refused (e : ArmError) (before s : Session) (r : Reply) (buf₀ buf : List ℕ) : Type 0 where
-  pub next : r .next ≡ N.Finish (resultOf (Failed e))
+pub record Refused (x : Refusal) (before s : Session) (r : Reply) (buf₀ buf : List ℕ) : Type 0 where
+  pub next : r .next ≡ N.Finish (reported (refused x))
   pub bytes : r .bytes ≡ padded []
   pub session : s ≡ before
   pub lent : buf ≡ buf₀
 
 -- what a start answers: before, call and buffer, then session, reply and buffer afterwards
 abbrev pub StartedBy : Check → Session → SessionCall → List ℕ → Session → Reply → List ℕ → Type 0
-StartedBy (Refuse e) before c buf₀ s r buf = Refused e before s r buf₀ buf
+StartedBy (Refuse x) before c buf₀ s r buf = Refused x before s r buf₀ buf
 StartedBy Pass before c buf₀ s r buf = Answers (kindOf c) false (before .frame) (sessionTree (standing before) c buf₀) s r buf
 
 abbrev pub Started : Session → SessionCall → List ℕ → Session → Reply → List ℕ → Type 0
@@ -75,8 +79,8 @@ lostBy (tell m c w) a = false
 
 -- what a step answers; where no call is under way it is refused as NoSession
 abbrev pub SteppedIn : Phase → Session → Answer → List ℕ → Session → Reply → List ℕ → Type 0
-SteppedIn P.Closed before a buf₀ s r buf = Refused E.NoSession before s r buf₀ buf
-SteppedIn P.Open before a buf₀ s r buf = Refused E.NoSession before s r buf₀ buf
+SteppedIn P.Closed before a buf₀ s r buf = Refused R.NoSession before s r buf₀ buf
+SteppedIn P.Open before a buf₀ s r buf = Refused R.NoSession before s r buf₀ buf
 SteppedIn (P.Running kind lost) before a buf₀ s r buf =
     Answers kind (lost || lostBy (stateTree (before .state) (before .row) buf₀) a) (before .frame)
     (follow (stateTree (before .state) (before .row) buf₀) a) s r buf

@@ -23,11 +23,12 @@ use engine_calls::Frame;
 use session_phase::Kind;
 use session_phase::Phase;
 use session_rules::Check;
+use session_rules::Refusal;
 use session_rules::SessionCall;
 use wire::Answer;
-use wire::ArmError;
 use wire::Outcome;
 use wire_memap::Op;
+use wire_numbers::CallEnding;
 
 // `state` has what is remembered and the call in flight, `row` the words of its runs, `frame` what call 23 left and 24 takes.
 pub struct Session {
@@ -128,14 +129,17 @@ fn settled(kind: Kind, lost: bool, frame: [u32; 8], row: [u32; 64], x: StepAnswe
 }
 
 // Nothing is changed.
-fn refused(s: Session, e: ArmError) -> SessionAnswer
-    ensures { λ r. ⌜ ((b : List ℕ) → Refused e s (r .session) (r .reply) b b) ⌝ }
+fn refused(s: Session, x: Refusal) -> SessionAnswer
+    ensures { λ r. ⌜ ((b : List ℕ) → Refused x s (r .session) (r .reply) b b) ⌝ }
 {
-    let x = wire_numbers::result_of(Outcome::Failed(e));
+    let e = CallEnding {
+        number: session_rules::refusal_number(x),
+        value: 0,
+    };
     SessionAnswer {
         session: s,
         reply: Reply {
-            next: NextStep::Finish(x),
+            next: NextStep::Finish(e),
             bytes: [0u8; 16],
         },
     }
@@ -227,7 +231,7 @@ pub fn session_start(s: Session, c: SessionCall, buf: &mut [u8]) -> SessionAnswe
 {
     let phase = s.phase;
     match session_rules::check_call(session_phase::is_open(phase), c, buf.len()) {
-        Check::Refuse(e) => refused(s, e),
+        Check::Refuse(x) => refused(s, x),
         Check::Pass => begun(s, c, buf),
     }
 }
@@ -238,8 +242,8 @@ pub fn session_step(s: Session, a: Answer, buf: &mut [u8]) -> SessionAnswer
 {
     let phase = s.phase;
     match phase {
-        Phase::Closed => refused(s, ArmError::NoSession),
-        Phase::Open => refused(s, ArmError::NoSession),
+        Phase::Closed => refused(s, Refusal::NoSession),
+        Phase::Open => refused(s, Refusal::NoSession),
         Phase::Running { kind, lost } => moved(s, kind, lost, a, buf),
     }
 }

@@ -1,7 +1,7 @@
 // The records of a list of session calls: which call a record names, with its arguments.
 ghost use mathlib.Core.Path.{_≡_};
 ghost use Prim.Native.Nat.{_%_, _≤_};
-ghost use lib.ListN.{length, getD};
+ghost use lib.ListN.{length};
 ghost use Rattle.session_items.specs.Records.{arg, functionAt, memoryAt, coreAt, fpbAt, byNumber, callAt};
 use call_core::CoreCall;
 use call_core::Function;
@@ -14,22 +14,12 @@ pub enum Listed {
     Nothing,
 }
 
-// A word of a list; past its end it is 0.
-pub fn word_at(ws: &[u32], i: usize) -> u32
-    ensures { λ r. ⌜ r ≡ getD (now (ws .entry)) i 0 ⌝ }
-{
-    if i < ws.len() {
-        return ws[i];
-    }
-    0
-}
-
 // Argument k of the record at `at`, which is inside the list.
 fn arg_at(ws: &[u32], at: usize, k: usize) -> u32
     requires { ⌜ (at ≤ length (now ws)) × (k ≤ 7) ⌝ }
     ensures { λ r. ⌜ r ≡ arg (now (ws .entry)) at k ⌝ }
 {
-    word_at(ws, at + (3 + k))
+    call::word_at(ws, at + (3 + k))
 }
 
 fn function_at(ws: &[u32], at: usize) -> Function
@@ -133,5 +123,5 @@ pub fn call_at(ws: &[u32], at: usize) -> Listed
     if ws.len() <= at {
         return Listed::Nothing;
     }
-    by_number(word_at(ws, at), ws, at)
+    by_number(call::word_at(ws, at), ws, at)
 }

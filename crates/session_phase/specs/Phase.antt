@@ -2,10 +2,9 @@
 -- FAULT, the ignored ABORT aside; after Spent; and after a connect that failed. Nothing else closes it.
 use mathlib.Core.Bool.{Bool, true, false, not, _&&_, _||_}
 use lib.Dec.{eqb}
-use Rattle.wire.specs.Wire.{Ending, ended, spent, succeeds}
+use Rattle.wire.specs.Wire.{Ending, ended, spent}
 use Rattle.wire.specs.declared.Answer.{Answer}
 use Rattle.wire.specs.declared.Answer.the-variants.{Good, SwdError, NotSupported, Other}
-use Rattle.wire.specs.declared.Outcome.{Outcome}
 use Rattle.wire.specs.declared.Mode.{Mode}
 use Rattle.wire.specs.declared.Mode.the-variants as D
 use Rattle.wire.specs.declared.Remembered.{Remembered}
@@ -33,14 +32,14 @@ abbrev pub rememberedFor : Bool → Remembered → Remembered
 rememberedFor true r = forgotten r
 rememberedFor false r = r
 
-abbrev pub finishes : Ending → Bool
-finishes (ended o) = true
-finishes spent = false
+abbrev pub isSpent : Ending → Bool
+isSpent (ended o) = false
+isSpent spent = true
 
--- whether the session is open after a call that was not refused: one without a loss that was brought to its end, a connect only if
--- it succeeded
-abbrev pub opensAfter : (connect lost : Bool) → Ending → Bool
-opensAfter connect lost e = not lost && (finishes e && (succeeds e || not connect))
+-- whether the session is open after a call that was not refused: nothing was lost, the call was not broken off (Spent), and a connect
+-- succeeded
+abbrev pub opensAfter : (connect lost broken ok : Bool) → Bool
+opensAfter connect lost broken ok = not (lost || broken || (connect && not ok))
 
 -- the phase that the code keeps, in which a call under way counts as closed
 abbrev pub isOpen : Phase → Bool
@@ -57,9 +56,6 @@ connects K.Connect = true
 connects K.Frame = false
 connects K.Plain = false
 
-abbrev pub phaseAfter : Kind → Bool → Outcome → Phase
-phaseAfter kind lost o = phaseOf (opensAfter (connects kind) lost (ended o))
-
--- the same for code that knows whether the call succeeded
-abbrev pub phaseEnded : Kind → Bool → Bool → Phase
-phaseEnded kind lost ok = phaseOf (not lost && (ok || not (connects kind)))
+-- after a call that was brought to its end
+abbrev pub phaseEnded : (kind : Kind) (lost ok : Bool) → Phase
+phaseEnded kind lost ok = phaseOf (opensAfter (connects kind) lost false ok)

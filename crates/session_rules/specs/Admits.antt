@@ -3,8 +3,6 @@
 use Prim.Native.Nat.{ℕ, _+_, _%_}
 use mathlib.Core.Bool.{Bool, true, false, not}
 use lib.Dec.{eqb, leb}
-use Rattle.wire.specs.declared.ArmError.{ArmError}
-use Rattle.wire.specs.declared.ArmError.the-variants as E
 use Rattle.call_connect.specs.declared.ConnectCall.the-variants as N
 use Rattle.call_memory.specs.declared.MemoryCall.the-variants as M
 use Rattle.call_fpb.specs.declared.FpbCall.{FpbCall}
@@ -13,6 +11,8 @@ use Rattle.engine_calls.specs.declared.EngineCall.{EngineCall}
 use Rattle.engine_calls.specs.declared.EngineCall.the-variants as C
 use Rattle.session_rules.specs.declared.SessionCall.{SessionCall}
 use Rattle.session_rules.specs.declared.SessionCall.the-variants as S
+use Rattle.session_rules.specs.declared.Refusal.{Refusal}
+use Rattle.session_rules.specs.declared.Refusal.the-variants as R
 use Rattle.session_rules.specs.declared.Check.{Check}
 use Rattle.session_rules.specs.declared.Check.the-variants.{Pass, Refuse}
 
@@ -35,9 +35,9 @@ isConnect (S.WriteMem addr) = false
 isConnect (S.Core c) = false
 isConnect (S.Fpb c) = false
 
-abbrev pub unless : Bool → ArmError → Check → Check
-unless true e next = next
-unless false e next = Refuse e
+abbrev pub unless : Bool → Refusal → Check → Check
+unless true x next = next
+unless false x next = Refuse x
 
 -- where a breakpoint is set, cleared or asked for
 abbrev pub breakpoint : FpbCall → ℕ
@@ -72,4 +72,10 @@ admitted false c = isConnect c
 -- the checks in 01's order, with a buffer of so many bytes
 abbrev pub refusal : Bool → SessionCall → ℕ → Check
 refusal was c bytes =
-    unless (admitted was c) E.NoSession (unless (aligned c) E.Align (unless (ranged c bytes) E.Range Pass))
+    unless (admitted was c) R.NoSession (unless (aligned c) R.Align (unless (ranged c bytes) R.Range Pass))
+
+-- 01's numbers of the refusals; their value is 0
+abbrev pub refusalNumber : Refusal → ℕ
+refusalNumber R.NoSession = 10
+refusalNumber R.Align = 9
+refusalNumber R.Range = 8

@@ -3,22 +3,21 @@ use Prim.Native.Nat.{ℕ}
 use mathlib.Core.Bool.{Bool, false, _||_}
 use mathlib.Core.List.{List, [], _∷_}
 use lib.ListN.{length, replicate}
-use Rattle.wire.specs.Wire.{Wire, Memory, done, ask, tell, play, Played, Ending, ended}
+use Rattle.wire.specs.Wire.{Wire, done, ask, tell, play, Played, Ending, succeeds}
 use Rattle.wire.specs.declared.Call.{Call}
 use Rattle.wire.specs.declared.Answer.{Answer}
-use Rattle.wire.specs.declared.Outcome.{Outcome}
-use Rattle.wire.specs.declared.Outcome.the-variants.{Failed}
 use Rattle.wire.specs.declared.Remembered.{Remembered}
 use Rattle.call.specs.Change.{fresh}
 use Rattle.engine_calls.specs.Calls.{callTree, rowFor, coreFrame, frameLeft}
 use Rattle.engine_calls.specs.declared.Frame.{Frame}
 use Rattle.engine_calls.specs.declared.Frame.the-variants as F
-use Rattle.session_phase.specs.Phase.{loss, rememberedFor, opensAfter}
+use Rattle.session_phase.specs.Phase.{loss, rememberedFor, isSpent, opensAfter}
 use Rattle.session_phase.specs.declared.Kind.{Kind}
 use Rattle.session_phase.specs.declared.Kind.the-variants as K
 use Rattle.session_rules.specs.Admits.{engineCall, isConnect, refusal}
 use Rattle.session_rules.specs.declared.SessionCall.{SessionCall}
 use Rattle.session_rules.specs.declared.SessionCall.the-variants as S
+use Rattle.session_rules.specs.declared.Refusal.{Refusal}
 use Rattle.session_rules.specs.declared.Check.{Check}
 use Rattle.session_rules.specs.declared.Check.the-variants.{Pass, Refuse}
 
@@ -64,30 +63,39 @@ frameBy K.Connect = F.Nowhere
 frameBy K.Frame = F.Left
 frameBy K.Plain = F.Nowhere
 
+-- how a call of a session ends: refused, or as the engine's call ended
+pub data Result : Type 0 where
+  refused : Refusal → Result
+  ran : Ending → Result
+
+abbrev pub succeeded : Result → Bool
+succeeded (refused x) = false
+succeeded (ran e) = succeeds e
+
 -- a call and all that came of it: the transport calls made, the ending, the caller's buffer, and the session afterwards
 pub record Called : Type 0 where
   pub calls : List Call
-  pub ending : Ending
+  pub ending : Result
   pub buf : List ℕ
   pub after : Standing
 
 abbrev pub settled : Standing → SessionCall → Bool → Played → Called
 settled s c lost p = record {
   calls = p .calls;
-  ending = p .ending;
+  ending = ran (p .ending);
   buf = p .memory .buf;
   after = record {
-    isOpen = opensAfter (isConnect c) lost (p .ending);
+    isOpen = opensAfter (isConnect c) lost (isSpent (p .ending)) (succeeds (p .ending));
     remembered = p .memory .remembered;
     frame = frameLeft (engineCall c) (p .ending) (p .memory .words) (s .frame);
   };
 }
 
-abbrev pub unchanged : Standing → Outcome → List ℕ → Called
-unchanged s o buf = record { calls = []; ending = ended o; buf = buf; after = s }
+abbrev pub unchanged : Standing → Refusal → List ℕ → Called
+unchanged s x buf = record { calls = []; ending = refused x; buf = buf; after = s }
 
 abbrev pub checked : Check → Standing → SessionCall → List ℕ → List Answer → Called
-checked (Refuse e) s c buf answers = unchanged s (Failed e) buf
+checked (Refuse x) s c buf answers = unchanged s x buf
 checked Pass s c buf answers =
     settled s c (lostIn (sessionTree s c buf) answers) (play (sessionTree s c buf) answers)
 

@@ -3,7 +3,7 @@ ghost use mathlib.Core.Bool.{not};
 ghost use mathlib.Core.Path.{_≡_};
 ghost use Prim.Native.Nat.{_+_};
 ghost use lib.Dec.{leb};
-ghost use Rattle.session_rules.specs.Admits.{engineCall, isConnect, breakpoint, aligned, ranged, admitted, refusal};
+ghost use Rattle.session_rules.specs.Admits.{engineCall, isConnect, breakpoint, aligned, ranged, admitted, refusal, refusalNumber};
 ghost use Rattle.engine_calls.specs.Calls.{coreFrame};
 ghost use Rattle.session_rules.specs.Session.{kindBy, kindOf};
 use call_connect::ConnectCall;
@@ -13,7 +13,6 @@ use call_memory::MemoryCall;
 use engine_calls::EngineCall;
 use engine_calls::Frame;
 use session_phase::Kind;
-use wire::ArmError;
 
 // Calls 3, 9, 10, 13, 14, 15 to 25 and 26 to 28.
 pub enum SessionCall {
@@ -26,10 +25,28 @@ pub enum SessionCall {
     Fpb(FpbCall),
 }
 
-// Whether a call may start, or the error that refuses it.
+// Why a session refuses a call, before any transport call is made.
+pub enum Refusal {
+    NoSession,
+    Align,
+    Range,
+}
+
+// Whether a call may start, or why it is refused.
 pub enum Check {
     Pass,
-    Refuse(ArmError),
+    Refuse(Refusal),
+}
+
+// 01's number of a refusal.
+pub fn refusal_number(x: Refusal) -> u8
+    ensures { λ r. ⌜ r ≡ refusalNumber x ⌝ }
+{
+    match x {
+        Refusal::NoSession => 10,
+        Refusal::Align => 9,
+        Refusal::Range => 8,
+    }
 }
 
 // The engine's call that a session's call is.
@@ -134,13 +151,13 @@ pub fn check_call(now_open: bool, c: SessionCall, bytes: usize) -> Check
     ensures { λ r. ⌜ r ≡ refusal now_open c bytes ⌝ }
 {
     if !is_admitted(now_open, c) {
-        return Check::Refuse(ArmError::NoSession);
+        return Check::Refuse(Refusal::NoSession);
     }
     if !is_aligned(c) {
-        return Check::Refuse(ArmError::Align);
+        return Check::Refuse(Refusal::Align);
     }
     if !is_ranged(c, bytes) {
-        return Check::Refuse(ArmError::Range);
+        return Check::Refuse(Refusal::Range);
     }
     Check::Pass
 }

@@ -5,11 +5,10 @@ use mathlib.Core.List.{List, [], _∷_, _++_, map}
 use mathlib.Core.Path.{_≡_}
 use lib.ListN.{length, take, drop}
 use lib.Seq.{sets}
-use Rattle.wire_numbers.specs.Results.{endingOf}
 use Rattle.wire_numbers.specs.declared.CallEnding.{CallEnding}
 use Rattle.target.specs.declared.Act.{Act}
 use Rattle.target.specs.Line.{actOf}
-use Rattle.session.specs.Step.{standing}
+use Rattle.session.specs.Step.{standing, reported}
 use Rattle.session_items.specs.Records.{ITEM, callAt, budgetAt, sizeAt}
 use Rattle.agreement.specs.Demand3.{Item, Moment, Made, lastOf}
 use Rattle.session_run.specs.Ran.{item}
@@ -38,7 +37,7 @@ abbrev pub codeOf : CallEnding → ℕ
 codeOf e = e .number * 0x100000000 + e .value
 
 abbrev pub resultsOf : List Made → List ℕ
-resultsOf ms = map (λ (m : Made). codeOf (endingOf (m .came .ending))) ms
+resultsOf ms = map (λ (m : Made). codeOf (reported (m .came .ending))) ms
 
 -- the lent bytes afterwards: each buffer where it lay
 abbrev pub buffersAfter : List Made → List ℕ → List ℕ

@@ -3,8 +3,7 @@ use mathlib.Core.List.{List}
 use mathlib.Core.Path.{_≡_}
 use Prim.Native.Nat.{ℕ}
 use lib.ListN.{length}
-use Rattle.wire_numbers.specs.Results.{endingOf}
-use Rattle.session.specs.Step.{standing}
+use Rattle.session.specs.Step.{standing, reported}
 use Rattle.session.specs.declared.Session.{Session}
 use Rattle.session_rules.specs.declared.SessionCall.{SessionCall}
 use Rattle.target.specs.declared.Target.{Target}
@@ -20,7 +19,7 @@ item c budget buf = record { call = c; budget = budget; buf = buf }
 -- r, the memory and the buffer at exit report the call m
 pub record CallRuns (m : Made) (r : CallRan) (bytes lent : List ℕ) : Type 0 where
   pub count : r .count ≡ length (m .answers)
-  pub ending : r .ending ≡ endingOf (m .came .ending)
+  pub ending : r .ending ≡ reported (m .came .ending)
   pub session : standing (r .session) ≡ m .after .standing
   pub target : r .target ≡ m .after .target
   pub mem : bytes ≡ m .after .mem

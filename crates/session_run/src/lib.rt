@@ -2,7 +2,7 @@
 ghost use mathlib.Core.Path.{_≡_};
 ghost use Prim.Native.Nat.{min};
 ghost use lib.ListN.{length, drop, set};
-ghost use Rattle.target_run.specs.Talk.{actNow, actsThen};
+ghost use Rattle.target_line.specs.Talk.{actNow, actsThen};
 ghost use Rattle.agreement.specs.Demand3.{made, history};
 ghost use Rattle.session_run.specs.Ran.{moment, item, CallRuns};
 ghost use Rattle.session_run.specs.Items.{codeOf, actsOf, itemsOf, ListRuns};
@@ -64,7 +64,7 @@ fn note_result(results: &mut [u64], i: usize, e: CallEnding)
 fn act_at(acts: &[u32], at: usize) -> Act
     ensures { λ r. ⌜ r ≡ actNow (actsOf (drop at (now (acts .entry)))) ⌝ }
 {
-    target_line::act_of(session_items::word_at(acts, at))
+    target_line::act_of(call::word_at(acts, at))
 }
 
 // The place of the act after that.
@@ -203,11 +203,11 @@ pub fn run_list(
                 return list_ran(last, i);
             }
             Listed::Call(c) => {
-                let size = fitting(session_items::word_at(items, at + 2), bytes.len() - place);
+                let size = fitting(call::word_at(items, at + 2), bytes.len() - place);
                 last = run_call(
                     last.session,
                     c,
-                    session_items::word_at(items, at + 1),
+                    call::word_at(items, at + 1),
                     last.target,
                     acts,
                     last.at,

@@ -3,9 +3,10 @@
 -- ways to it.
 use mathlib.Core.Bool.{Bool, _&&_}
 use mathlib.Core.List.{List}
-use Prim.Native.Nat.{ℕ, _+_, _-_, _*_, _/_, _%_}
-use lib.ListN.{length, getD, set}
+use Prim.Native.Nat.{ℕ, _+_, _-_}
+use lib.ListN.{length, getD}
 use lib.Dec.{leb, ltb}
+use Rattle.wire.specs.Bytes.{leWord, putWord}
 use Rattle.target.specs.declared.Target.{Target}
 use Rattle.target.specs.declared.Byte.{Byte}
 use Rattle.target.specs.declared.Byte.the-variants.{Value, Absent}
@@ -21,18 +22,9 @@ byteAt t m a = pick (leb (t .base) a && ltb a (t .base + length m)) (Value (getD
 abbrev pub inMemory : Target → List ℕ → ℕ → Bool
 inMemory t m a = leb (t .base) a && leb (a + 4) (t .base + length m)
 
--- the word at a place of a list of bytes, lowest byte first
-abbrev pub wordAt : List ℕ → ℕ → ℕ
-wordAt m i = getD m i 0 + 256 * getD m (i + 1) 0 + 65536 * getD m (i + 2) 0 + 16777216 * getD m (i + 3) 0
-
--- the list with a word at a place, lowest byte first
-abbrev pub putWord : List ℕ → ℕ → ℕ → List ℕ
-putWord m i w =
-    set (set (set (set m i (w % 256)) (i + 1) (w / 256 % 256)) (i + 2) (w / 256 / 256 % 256)) (i + 3) (w / 256 / 256 / 256 % 256)
-
 -- the word at an address that is in memory
 abbrev pub load : Target → List ℕ → ℕ → ℕ
-load t m a = wordAt m (a - t .base)
+load t m a = leWord m (a - t .base)
 
 -- the memory with a word at such an address
 abbrev pub store : Target → List ℕ → ℕ → ℕ → List ℕ

@@ -1,8 +1,10 @@
 -- Copyright 2026 Kenta Ida. SPDX-License-Identifier: Apache-2.0. Ported from arm-debug/src/lib.rs of ciniml/rust-dap.
--- The bits of the fixed sequences and the bytes that a transport call hands over (000: swd_line_reset to write_targetsel).
-use Prim.Native.Nat.{ℕ, _+_, _-_, _/_, _%_}
+-- The bits of the fixed sequences and the bytes that a transport call hands over (000: swd_line_reset to write_targetsel);
+-- words in lists of bytes, lowest byte first (000: to_le_bytes, from_le_bytes).
+use Prim.Native.Nat.{ℕ, _+_, _-_, _*_, _/_, _%_}
 use mathlib.Core.List.{List, [], _∷_, _++_}
 use lib.ListN.{length, getD, replicate, take}
+use lib.Seq.{sets}
 use Rattle.wire.specs.declared.Pattern.{Pattern}
 use Rattle.wire.specs.declared.Pattern.the-variants as P
 use Rattle.wire.specs.declared.Call.{Call}
@@ -34,6 +36,14 @@ patternBytes P.SwdActivation = 0x1A ∷ []
 -- the bytes of a word, lowest first
 abbrev pub leBytes : ℕ → List ℕ
 leBytes w = w % 256 ∷ w / 256 % 256 ∷ w / 256 / 256 % 256 ∷ w / 256 / 256 / 256 % 256 ∷ []
+
+-- the word of the four bytes from place i on; what is missing reads 0
+abbrev pub leWord : List ℕ → ℕ → ℕ
+leWord b i = getD b i 0 + 0x100 * getD b (i + 1) 0 + 0x10000 * getD b (i + 2) 0 + 0x1000000 * getD b (i + 3) 0
+
+-- the list with a word's bytes from place i on; what falls outside is dropped
+abbrev pub putWord : List ℕ → ℕ → ℕ → List ℕ
+putWord b i w = sets b i (leBytes w)
 
 -- the bytes that a transport call hands over
 abbrev pub handed : Call → List ℕ

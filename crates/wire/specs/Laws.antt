@@ -1,3 +1,4 @@
 pub mod Count
 pub mod Rows
 pub mod Flight
+pub mod Numbers

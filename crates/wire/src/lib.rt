@@ -60,7 +60,7 @@ pub enum Answer {
     Other,
 }
 
-// The Rust's errors, and the refusals that 01 adds: Range, Align, NoSession, TableEnd.
+// The Rust's errors, and what 01 adds for the engine: Range, Align, TableEnd.
 pub enum ArmError {
     Transfer(u8),
     Wait,
@@ -71,7 +71,6 @@ pub enum ArmError {
     Internal,
     Range,
     Align,
-    NoSession,
     TableEnd,
 }
 

@@ -17,7 +17,6 @@ errorNumber E.NoTarget = 6
 errorNumber E.Internal = 7
 errorNumber E.Range = 8
 errorNumber E.Align = 9
-errorNumber E.NoSession = 10
 errorNumber E.TableEnd = 12
 
 -- a failure's value is 0 except for Transfer
@@ -31,7 +30,6 @@ errorValue E.NoTarget = 0
 errorValue E.Internal = 0
 errorValue E.Range = 0
 errorValue E.Align = 0
-errorValue E.NoSession = 0
 errorValue E.TableEnd = 0
 
 abbrev pub resultOf : Outcome → CallEnding

@@ -70,10 +70,6 @@ fn error_ending(e: ArmError) -> CallEnding
             number: 9,
             value: 0,
         },
-        ArmError::NoSession => CallEnding {
-            number: 10,
-            value: 0,
-        },
         ArmError::TableEnd => CallEnding {
             number: 12,
             value: 0,

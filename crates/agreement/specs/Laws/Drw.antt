@@ -5,9 +5,10 @@ use mathlib.Core.Path.{_≡_, refl, sym, ap, _∙_}
 use mathlib.Core.List.{List}
 use native.Mathlib.Omega.{arith}
 use lib.ListN.{length}
+use Rattle.wire.specs.Bytes.{putWord, leWord}
 use Rattle.wire_memap.specs.Ports.{CSW-DEFAULT}
 use Rattle.target.specs.Choice.{pick}
-use Rattle.target.specs.Memory.{inMemory, wordAt, putWord}
+use Rattle.target.specs.Memory.{inMemory}
 use Rattle.target.specs.Laws.Memory.{in-memory}
 use Rattle.target.specs.Fields.{withRdbuff}
 use Rattle.target.specs.MemAp.{wordAddress, nextTar, advanced, failed, posted}
@@ -78,8 +79,8 @@ module _ {base a : ℕ} {t : Target} (r : Poised base t) (tar : t .tar ≡ a) (z
     drw-read P f g h = at-zero t mem 0xF 0 P refl (r .select) f (λ _. go (inMemory t mem (wordAddress t)) refl)
       where
         go : (x : Bool) → inMemory t mem (wordAddress t) ≡ x
-            → P (replied (pick x (posted (advanced t) (wordAt mem (wordAddress t - t .base))) (posted (failed t) 0)) mem)
-        go true e = g (wordAt mem (wordAddress t - t .base)) (record { low = here e .0; high = here e .1; word = ap (wordAt mem) place })
+            → P (replied (pick x (posted (advanced t) (leWord mem (wordAddress t - t .base))) (posted (failed t) 0)) mem)
+        go true e = g (leWord mem (wordAddress t - t .base)) (record { low = here e .0; high = here e .1; word = ap (leWord mem) place })
         go false e = h
 
 -- RDBUFF answers the read buffer

@@ -6,10 +6,9 @@ use native.Mathlib.Decide.{decLt}
 use native.Mathlib.Omega.{arith}
 use lib.ListN.{length, getD, drop, length-drop}
 use lib.Seq.{getD-drop}
-use Rattle.wire.specs.Bytes.{leBytes}
-use Rattle.target.specs.Memory.{wordAt}
+use Rattle.wire.specs.Bytes.{leBytes, leWord}
 use Rattle.target.specs.declared.Byte.the-variants.{Value}
-use Rattle.call.specs.Bytes.{leWord, storeWords, storePart, patchWord, fromPlace}
+use Rattle.call.specs.Bytes.{storeWords, storePart, patchWord, fromPlace}
 use Rattle.agreement.specs.Demand3.{Bytes}
 use Rattle.agreement.specs.Laws.WordBytes.{word-bytes}
 use Rattle.agreement.specs.Laws.Bytewise.{byteIn, byte-in}
@@ -20,7 +19,7 @@ use Rattle.agreement.specs.Laws.Rows.{stored-at, part-at, patch-in, patc
 pub record Held (base : ℕ) (mem : List ℕ) (a w : ℕ) : Type 0 where
   pub low : base ≤ a
   pub high : a + 4 ≤ base + length mem
-  pub word : w ≡ wordAt mem (a - base)
+  pub word : w ≡ leWord mem (a - base)
 
 -- the first n words of a row are those from a on
 abbrev pub Row : ℕ → List ℕ → ℕ → ℕ → List ℕ → Type 0

@@ -4,16 +4,16 @@ use mathlib.Core.Bool.{Bool, true, false, false≢true}
 use mathlib.Core.List.{List}
 use mathlib.Core.Path.{_≡_, refl}
 use lib.ListN.{length}
-use Rattle.wire.specs.Wire.{Wire, Memory, memoryOf, done, ask, tell, play, Ending, ended, spent}
+use Rattle.wire.specs.Wire.{Wire, Memory, memoryOf, done, ask, tell, play, Ending, ended, spent, succeeds}
 use Rattle.target.specs.Line.{line}
 use Rattle.target.specs.WellFormed.{WellFormed}
 use Rattle.target.specs.Laws.WellFormed.{well-line}
 use Rattle.target.specs.declared.Target.{Target}
 use Rattle.target.specs.declared.Act.{Act}
-use Rattle.target_run.specs.Talk.{Talk, talk, actNow, actsThen}
+use Rattle.target_line.specs.Talk.{Talk, talk, actNow, actsThen}
 use Rattle.engine_calls.specs.Calls.{jobOf}
 use Rattle.session_rules.specs.Admits.{engineCall, isConnect, refusal}
-use Rattle.session_phase.specs.Phase.{rememberedFor, opensAfter}
+use Rattle.session_phase.specs.Phase.{rememberedFor, isSpent, opensAfter}
 use Rattle.session_rules.specs.Session.{Standing, sessionTree, lostIn, settled}
 use Rattle.session_rules.specs.declared.SessionCall.{SessionCall}
 use Rattle.session_rules.specs.declared.Check.{Check}
@@ -35,9 +35,9 @@ formed-talk (tell m c w) zero acts t mem h = h
 formed-talk (tell m c w) (suc n) acts t mem h = formed-talk w n (actsThen acts) _ _ (well-line t mem c (actNow acts) h)
 
 -- a session that is open after a call has lost nothing
-open-whole : (connect lost : Bool) (e : Ending) → opensAfter connect lost e ≡ true → lost ≡ false
-open-whole connect true e h = absurd (false≢true h)
-open-whole connect false e h = refl
+open-whole : (connect lost broken ok : Bool) → opensAfter connect lost broken ok ≡ true → lost ≡ false
+open-whole connect true broken ok h = absurd (false≢true h)
+open-whole connect false broken ok h = refl
 
 -- how the call finds the memory
 starts : (x : Moment) (i : Item) → Kept x → refusal (x .standing .isOpen) (i .call) (length (i .buf)) ≡ Pass → (row : List ℕ)
@@ -62,7 +62,7 @@ leaves-kept : (s : Standing) (c : SessionCall) (w : Wire) (n : ℕ) (acts : List
 leaves-kept s c w n acts t mem f h =
     let p = play w (talk w n acts t mem .answers) in
     let a = holds-so (p .ending) _ _ _ _ (lives Ends Agreed w n acts t mem false h) in
-    record { formed = formed-talk w n acts t mem f; port = a .port; agree = λ o. a .agree (open-whole (isConnect c) _ (p .ending) o) }
+    record { formed = formed-talk w n acts t mem f; port = a .port; agree = λ o. a .agree (open-whole (isConnect c) _ (isSpent (p .ending)) (succeeds (p .ending)) o) }
 
 pub keeps : (x : Moment) (i : Item) (acts : List Act) → Kept x → Kept (made x i acts .after)
 keeps x i acts k = go (refusal (x .standing .isOpen) (i .call) (length (i .buf))) refl

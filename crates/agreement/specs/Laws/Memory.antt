@@ -11,17 +11,17 @@ use borrow.Author.Tests.{eqb-true, not-true}
 use Rattle.wire.specs.Bytes.{leBytes}
 use Rattle.wire.specs.Wire.{Wire, Memory, memoryOf, play, Ending, ended, spent, succeeds}
 use Rattle.wire.specs.declared.Outcome.the-variants.{Value, Failed}
-use Rattle.wire.specs.declared.ArmError.{ArmError}
-use Rattle.wire.specs.declared.ArmError.the-variants as E
 use Rattle.call_memory.specs.Memory.{memFrom, mem, memoryJob}
 use Rattle.call.specs.Job.{Job, exec}
 use Rattle.target.specs.declared.Target.{Target}
 use Rattle.target.specs.declared.Byte.the-variants as B
 use Rattle.target.specs.declared.Act.{Act}
 use Rattle.session_rules.specs.Admits.{unless, admitted, aligned, ranged, isConnect, refusal}
-use Rattle.session_rules.specs.Session.{sessionTree, lostIn}
+use Rattle.session_rules.specs.Session.{ran, succeeded, sessionTree, lostIn}
 use Rattle.session_rules.specs.declared.SessionCall.{SessionCall}
 use Rattle.session_rules.specs.declared.SessionCall.the-variants as S
+use Rattle.session_rules.specs.declared.Refusal.{Refusal}
+use Rattle.session_rules.specs.declared.Refusal.the-variants as R
 use Rattle.session_rules.specs.declared.Check.{Check}
 use Rattle.session_rules.specs.declared.Check.the-variants.{Pass, Refuse}
 use Rattle.agreement.specs.Demand3.{Bytes, Item, Moment, Made, madeIf, made, Reads, Writes, old, valueBytes, MemoryKept}
@@ -36,22 +36,22 @@ use Rattle.agreement.specs.Laws.WriteTurns.{Partly, WriteSpent, WriteEnd
 use Rattle.agreement.specs.Laws.OneWord.{WordEnds, word-read, word-written}
 
 -- refused: nothing changed, no success
-refused-reads : (e : ArmError) (x : Moment) (i : Item) (acts : List Act) (addr n : ℕ) (given : List ℕ)
-    → Reads (madeIf (Refuse e) x i acts) addr n given
-refused-reads e x i acts addr n given = record { same = λ a. refl; whole = λ h. absurd (false≢true h); gives = λ h. absurd (false≢true h) }
+refused-reads : (r : Refusal) (x : Moment) (i : Item) (acts : List Act) (addr n : ℕ) (given : List ℕ)
+    → Reads (madeIf (Refuse r) x i acts) addr n given
+refused-reads r x i acts addr n given = record { same = λ a. refl; whole = λ h. absurd (false≢true h); gives = λ h. absurd (false≢true h) }
 
-refused-writes : (e : ArmError) (x : Moment) (i : Item) (acts : List Act) (addr : ℕ) (new : List ℕ) → Writes (madeIf (Refuse e) x i acts) addr new
-refused-writes e x i acts addr new = record { whole = λ h. absurd (false≢true h); partly = λ a. old refl }
+refused-writes : (r : Refusal) (x : Moment) (i : Item) (acts : List Act) (addr : ℕ) (new : List ℕ) → Writes (madeIf (Refuse r) x i acts) addr new
+refused-writes r x i acts addr new = record { whole = λ h. absurd (false≢true h); partly = λ a. old refl }
 
 -- the checks that passed
-never-passes : {X : Type 0} (e : ArmError) → Refuse e ≡ Pass → X
-never-passes e h = let z : _≡_ {A = ℕ} 0 1 = cc in absurd (omega arith)
+never-passes : {X : Type 0} (r : Refusal) → Refuse r ≡ Pass → X
+never-passes r h = let z : _≡_ {A = ℕ} 0 1 = cc in absurd (omega arith)
 
-passed : (a b c : Bool) → unless a E.NoSession (unless b E.Align (unless c E.Range Pass)) ≡ Pass → (a ≡ true) × (b ≡ true) × (c ≡ true)
+passed : (a b c : Bool) → unless a R.NoSession (unless b R.Align (unless c R.Range Pass)) ≡ Pass → (a ≡ true) × (b ≡ true) × (c ≡ true)
 passed true true true h = (refl, refl, refl)
-passed true true false h = never-passes E.Range h
-passed true false c h = never-passes E.Align h
-passed false b c h = never-passes E.NoSession h
+passed true true false h = never-passes R.Range h
+passed true false c h = never-passes R.Align h
+passed false b c h = never-passes R.NoSession h
 
 opened : (isOpen : Bool) (c : SessionCall) → isConnect c ≡ false → admitted isOpen c ≡ true → isOpen ≡ true
 opened true c n h = refl
@@ -65,13 +65,13 @@ begins x k o b = record { port = k .port; agree = k .agree o; size = length-repl
 -- What the end of a call says, whatever it is.
 module _ (base : ℕ) (mem₀ : List ℕ) (addr : ℕ) (m : Memory) (t : Target) (mem : List ℕ) (b : Bool) where
   -- of a read: the memory stayed, and what a success gives is in it
-  record ReadOff (n : ℕ) (e : Ending) (given : List ℕ) : Type 0 where
+  record ReadOff (n : ℕ) (ok : Bool) (given : List ℕ) : Type 0 where
     start : t .base ≡ base
     same : mem ≡ mem₀
-    whole : succeeds e ≡ true → length given ≡ n
-    gives : succeeds e ≡ true → (i : ℕ) → i < length given → byteIn base mem₀ (addr + i) ≡ B.Value (getD given i 0)
+    whole : ok ≡ true → length given ≡ n
+    gives : ok ≡ true → (i : ℕ) → i < length given → byteIn base mem₀ (addr + i) ≡ B.Value (getD given i 0)
 
-  word-off : Bytes mem₀ → (e : Ending) → Holds (WordEnds base mem₀ addr) (ReadSpent base mem₀) e m t mem b → ReadOff 4 e (valueBytes e)
+  word-off : Bytes mem₀ → (e : Ending) → Holds (WordEnds base mem₀ addr) (ReadSpent base mem₀) e m t mem b → ReadOff 4 (succeeds e) (valueBytes (ran e))
   word-off bytes (ended (Value v)) h = record {
     start = h .0 .0;
     same = h .0 .1;
@@ -82,29 +82,29 @@ module _ (base : ℕ) (mem₀ : List ℕ) (addr : ℕ) (m : Memory) (t : Target)
   word-off bytes (ended (Failed e)) h = record { start = h .0; same = h .1; whole = λ s. absurd (false≢true s); gives = λ s. absurd (false≢true s) }
   word-off bytes spent h = record { start = h .0; same = h .1; whole = λ s. absurd (false≢true s); gives = λ s. absurd (false≢true s) }
 
-  mem-off : (len : ℕ) (e : Ending) → Holds (ReadEnds base mem₀ addr len) (ReadSpent base mem₀) e m t mem b → ReadOff len e (m .buf)
+  mem-off : (len : ℕ) (e : Ending) → Holds (ReadEnds base mem₀ addr len) (ReadSpent base mem₀) e m t mem b → ReadOff len (succeeds e) (m .buf)
   mem-off len (ended (Value v)) h = record { start = h .0 .0; same = h .0 .1; whole = λ s. h .1; gives = λ s i l. h .2 i (omega (arith, h .1)) }
   mem-off len (ended (Failed e)) h = record { start = h .0; same = h .1; whole = λ s. absurd (false≢true s); gives = λ s. absurd (false≢true s) }
   mem-off len spent h = record { start = h .0; same = h .1; whole = λ s. absurd (false≢true s); gives = λ s. absurd (false≢true s) }
 
   -- of a write: how far it has come
-  record WriteOff (new : List ℕ) (e : Ending) : Type 0 where
+  record WriteOff (new : List ℕ) (ok : Bool) : Type 0 where
     start : t .base ≡ base
     partly : Partly base mem₀ addr new mem
-    whole : succeeds e ≡ true → Progress base mem₀ addr new (length new) mem
+    whole : ok ≡ true → Progress base mem₀ addr new (length new) mem
 
-  write-off : (new : List ℕ) (e : Ending) → Holds (WriteEnds base mem₀ addr new) (WriteSpent base mem₀ addr new) e m t mem b → WriteOff new e
+  write-off : (new : List ℕ) (e : Ending) → Holds (WriteEnds base mem₀ addr new) (WriteSpent base mem₀ addr new) e m t mem b → WriteOff new (succeeds e)
   write-off new (ended (Value v)) h = record { start = h .0; partly = (length new, h .1); whole = λ s. h .1 }
   write-off new (ended (Failed e)) h = record { start = h .0; partly = h .1; whole = λ s. absurd (false≢true s) }
   write-off new spent h = record { start = h .0; partly = h .1; whole = λ s. absurd (false≢true s) }
 
 module _ (d : Made) (addr : ℕ) (m : Memory) (b : Bool) where
   reads : (n : ℕ) (given : List ℕ)
-      → ReadOff (d .before .target .base) (d .before .mem) addr m (d .after .target) (d .after .mem) b n (d .came .ending) given → Reads d addr n given
+      → ReadOff (d .before .target .base) (d .before .mem) addr m (d .after .target) (d .after .mem) b n (succeeded (d .came .ending)) given → Reads d addr n given
   reads n given o = record { same = λ a. rw (o .start, o .same) refl; whole = o .whole; gives = o .gives }
 
   writes : (new : List ℕ)
-      → WriteOff (d .before .target .base) (d .before .mem) addr m (d .after .target) (d .after .mem) b new (d .came .ending) → Writes d addr new
+      → WriteOff (d .before .target .base) (d .before .mem) addr m (d .after .target) (d .after .mem) b new (succeeded (d .came .ending)) → Writes d addr new
   writes new o = record {
     whole = λ s. progress-whole d addr new (o .start) (o .whole s);
     partly = progress-partly d addr new (o .start) (o .partly .0) (o .partly .1);
@@ -124,29 +124,32 @@ module _ (x : Moment) (n : ℕ) (buf : List ℕ) (acts : List Act) (c : SessionC
   abbrev memory : Memory
   memory = play tree (over .answers) .memory
 
+  abbrev ending : Ending
+  ending = play tree (over .answers) .ending
+
   abbrev lost : Bool
   lost = lostIn tree (over .answers)
 
   abbrev Lives : Post → Stand → Type 0
   Lives Q S = Safe Q S tree (x .target) (x .mem) false
 
-  lived : (Q : Post) (S : Stand) → Lives Q S → Holds Q S (over .came .ending) memory (over .after .target) (over .after .mem) lost
+  lived : (Q : Post) (S : Stand) → Lives Q S → Holds Q S ending memory (over .after .target) (over .after .mem) lost
   lived Q S h = lives Q S tree n acts (x .target) (x .mem) false h
 
   over-word : Bytes (x .mem) → Lives (WordEnds base (x .mem) addr) (ReadSpent base (x .mem)) → Reads over addr 4 (valueBytes (over .came .ending))
   over-word bytes h =
       reads over addr memory lost 4 (valueBytes (over .came .ending))
-      (word-off base (x .mem) addr memory (over .after .target) (over .after .mem) lost bytes (over .came .ending) (lived _ _ h))
+      (word-off base (x .mem) addr memory (over .after .target) (over .after .mem) lost bytes ending (lived _ _ h))
 
   over-mem : (len : ℕ) → Lives (ReadEnds base (x .mem) addr len) (ReadSpent base (x .mem)) → Reads over addr len (over .came .buf)
   over-mem len h =
       reads over addr memory lost len (over .came .buf)
-      (mem-off base (x .mem) addr memory (over .after .target) (over .after .mem) lost len (over .came .ending) (lived _ _ h))
+      (mem-off base (x .mem) addr memory (over .after .target) (over .after .mem) lost len ending (lived _ _ h))
 
   over-write : (new : List ℕ) → Lives (WriteEnds base (x .mem) addr new) (WriteSpent base (x .mem) addr new) → Writes over addr new
   over-write new h =
       writes over addr memory lost new
-      (write-off base (x .mem) addr memory (over .after .target) (over .after .mem) lost new (over .came .ending) (lived _ _ h))
+      (write-off base (x .mem) addr memory (over .after .target) (over .after .mem) lost new ending (lived _ _ h))
 
 -- Each call that passes its checks. The session was open, so that the call begins with agreement.
 module _ (x : Moment) (k : Kept x) (n : ℕ) (buf : List ℕ) (bytes : Bytes buf) (acts : List Act) where
@@ -160,12 +163,12 @@ module _ (x : Moment) (k : Kept x) (n : ℕ) (buf : List ℕ) (bytes : Bytes buf
   Passes c = refusal (x .standing .isOpen) c (length buf) ≡ Pass
 
   -- refused, or not
-  either : (c : SessionCall) (P : Made → Type 0) → ((e : ArmError) → P (madeIf (Refuse e) x (item c) acts))
+  either : (c : SessionCall) (P : Made → Type 0) → ((r : Refusal) → P (madeIf (Refuse r) x (item c) acts))
       → (Passes c → P (madeIf Pass x (item c) acts)) → P (made x (item c) acts)
   either c P f g = go (refusal (x .standing .isOpen) c (length buf)) refl
     where
-      go : (r : Check) → refusal (x .standing .isOpen) c (length buf) ≡ r → P (madeIf r x (item c) acts)
-      go (Refuse e) h = f e
+      go : (k : Check) → refusal (x .standing .isOpen) c (length buf) ≡ k → P (madeIf k x (item c) acts)
+      go (Refuse r) h = f r
       go Pass h = g h
 
   checks : (c : SessionCall) → Passes c → (admitted (x .standing .isOpen) c ≡ true) × (aligned c ≡ true) × (ranged c (length buf) ≡ true)
@@ -189,23 +192,23 @@ module _ (x : Moment) (k : Kept x) (n : ℕ) (buf : List ℕ) (bytes : Bytes buf
   call-kept S.ConnectSwd = tt
   call-kept (S.ReadWord addr) =
       let c = S.ReadWord addr in
-      either c (MemoryKept c) (λ e. refused-reads e x (item c) acts addr 4 [])
+      either c (MemoryKept c) (λ r. refused-reads r x (item c) acts addr 4 [])
       (λ h. over-word x n buf acts c addr (k .formed .bytes)
       (word-read (x .target .base) (x .mem) addr (eqb-true _ _ (checks c h .1)) start (x .target) (idle c refl h)))
   call-kept (S.WriteWord addr w) =
       let c = S.WriteWord addr w in
-      either c (MemoryKept c) (λ e. refused-writes e x (item c) acts addr (leBytes w))
+      either c (MemoryKept c) (λ r. refused-writes r x (item c) acts addr (leBytes w))
       (λ h. over-write x n buf acts c addr (leBytes w)
       (word-written (x .target .base) (x .mem) addr (eqb-true _ _ (checks c h .1)) start (x .target) (idle c refl h) w))
   call-kept (S.ReadMem addr) =
       let c = S.ReadMem addr in
-      either c (MemoryKept c) (λ e. refused-reads e x (item c) acts addr (length buf) buf)
+      either c (MemoryKept c) (λ r. refused-reads r x (item c) acts addr (length buf) buf)
       (λ h. over-mem x n buf acts c addr (length buf) (ranged-safe _ _ true addr (checks c h .2)
       (read-mem (x .target .base) (x .mem) addr (length buf) (k .formed .bytes) start (x .target) (x .mem)
       (record { idle = idle c refl h; same = refl; sized = refl; got = λ i l. absurd (omega arith) }))))
   call-kept (S.WriteMem addr) =
       let c = S.WriteMem addr in
-      either c (MemoryKept c) (λ e. refused-writes e x (item c) acts addr buf)
+      either c (MemoryKept c) (λ r. refused-writes r x (item c) acts addr buf)
       (λ h. over-write x n buf acts c addr buf (ranged-safe _ _ false addr (checks c h .2)
       (write-mem (x .target .base) (x .mem) addr buf (k .formed .bytes) bytes start (x .target) (x .mem)
       (record { idle = idle c refl h; buffer = refl; progress = progress-none (x .target .base) (x .mem) addr buf }))))

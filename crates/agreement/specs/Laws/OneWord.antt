@@ -5,12 +5,11 @@ use mathlib.Core.Path.{_≡_, refl, ap}
 use mathlib.Core.List.{List}
 use native.Mathlib.Omega.{arith}
 use lib.ListN.{length, getD}
-use Rattle.wire.specs.Bytes.{leBytes}
+use Rattle.wire.specs.Bytes.{leBytes, putWord}
 use Rattle.wire.specs.Wire.{Memory}
 use Rattle.wire.specs.declared.Outcome.the-variants.{Value, Failed}
 use Rattle.wire_memap.specs.Ops.{perform}
 use Rattle.call.specs.Job.{exec, readWord, writeWord}
-use Rattle.target.specs.Memory.{putWord}
 use Rattle.target.specs.declared.Target.{Target}
 use Rattle.agreement.specs.Laws.Safe.{Post, Safe}
 use Rattle.agreement.specs.Laws.Progress.{Progress, Next, progress-none, progress-put}

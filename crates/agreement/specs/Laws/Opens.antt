@@ -1,11 +1,10 @@
 -- Clause 1: the session is open exactly when the calls, their results and the answers say so, whatever answers. Serves the proofs only.
 use Prim.Native.Nat.{ℕ}
-use mathlib.Core.Bool.{Bool, true, false, not, _&&_, _||_}
+use mathlib.Core.Bool.{Bool, true, false, _&&_, _||_}
 use mathlib.Core.List.{List, [], _∷_}
 use mathlib.Core.Path.{_≡_, refl, sym, ap, _∙_}
 use lib.ListN.{length}
-use native.Mathlib.Omega.{arith}
-use Rattle.wire.specs.Wire.{Wire, Memory, play, Ending, ended, spent, succeeds}
+use Rattle.wire.specs.Wire.{Wire, Memory}
 use Rattle.wire.specs.declared.Answer.{Answer}
 use Rattle.wire.specs.declared.ArmError.{ArmError}
 use Rattle.wire.specs.declared.Outcome.{Outcome}
@@ -17,13 +16,11 @@ use Rattle.call.specs.Job.{Job, ends, op, keep, exec, either}
 use Rattle.engine_calls.specs.Calls.{jobOf}
 use Rattle.target.specs.Choice.{pick}
 use Rattle.session_rules.specs.Admits.{engineCall, isConnect, refusal}
-use Rattle.session_phase.specs.Phase.{opensAfter}
 use Rattle.session_rules.specs.Session.{Standing, called, checked, sessionTree}
 use Rattle.session_rules.specs.declared.SessionCall.{SessionCall}
-use Rattle.session_rules.specs.declared.SessionCall.the-variants as S
 use Rattle.session_rules.specs.declared.Check.{Check}
 use Rattle.session_rules.specs.declared.Check.the-variants.{Pass, Refuse}
-use Rattle.agreement.specs.Demand3.{isTransfer, isSpent, lossAmong, openNext, Told, standingAfter, openTold}
+use Rattle.agreement.specs.Demand3.{isTransfer, lossAmong, openNext, Told, standingAfter, openTold}
 use Rattle.agreement.specs.Laws.Kept.{admitted-open}
 use Rattle.agreement.specs.Laws.Aborts.{Shaped, NoRaw, op-fine, lost-among}
 use Rattle.agreement.specs.Laws.Sound.{Stage, any, none, unsound, Admits, effect, effectOf, next, Sound}
@@ -61,37 +58,11 @@ job-shaped (keep c j) s h m = job-shaped j (next (effectOf c) s) (h .1) (changed
 shaped : (s : Standing) (c : SessionCall) (buf : List ℕ) → Shaped false (sessionTree s c buf)
 shaped s c buf = job-shaped (jobOf (engineCall c) 0 (length buf)) any (call-sound c (length buf)) _
 
--- the session's rule and the list's rule are the same rule
-same-rule : (lost connect was : Bool) (e : Ending) → (connect ≡ false → was ≡ true)
-    → opensAfter connect lost e
-    ≡ not (isSpent e || (connect && not (succeeds e)) || lost) && ((connect && succeeds e) || was)
-same-rule true true was (ended (Value v)) h = refl
-same-rule true true was (ended (Failed e)) h = refl
-same-rule true true was spent h = refl
-same-rule true false was (ended (Value v)) h = refl
-same-rule true false was (ended (Failed e)) h = refl
-same-rule true false was spent h = refl
-same-rule false true was (ended (Value v)) h = refl
-same-rule false true was (ended (Failed e)) h = refl
-same-rule false true was spent h = refl
-same-rule false false was (ended (Value v)) h = sym (h refl)
-same-rule false false was (ended (Failed e)) h = sym (h refl)
-same-rule false false was spent h = refl
-
--- a connect is never refused
-connect-passes : (was : Bool) (n : ℕ) → refusal was S.ConnectSwd n ≡ Pass
-connect-passes true n = refl
-connect-passes false n = refl
-
-refused-other : (was : Bool) (c : SessionCall) (n : ℕ) (e : ArmError) → refusal was c n ≡ Refuse e → isConnect c ≡ false
-refused-other was S.ConnectSwd n e h = let z : Pass ≡ Refuse e = sym (connect-passes was n)
-    ∙ h in let y : _≡_ {A = ℕ} 0 1 = cc in absurd (omega arith)
-refused-other was (S.ReadWord addr) n e h = refl
-refused-other was (S.WriteWord addr word) n e h = refl
-refused-other was (S.ReadMem addr) n e h = refl
-refused-other was (S.WriteMem addr) n e h = refl
-refused-other was (S.Core c) n e h = refl
-refused-other was (S.Fpb c) n e h = refl
+-- a call that ran connects, or found the session open
+same-rule : (connect was opens : Bool) → (connect ≡ false → was ≡ true) → opens ≡ opens && (connect || was)
+same-rule connect was false h = refl
+same-rule true was true h = refl
+same-rule false was true h = sym (h refl)
 
 pub open-next : (s : Standing) (c : SessionCall) (buf : List ℕ) (answers : List Answer)
     → called s c buf answers .after .isOpen
@@ -104,10 +75,8 @@ open-next s c buf answers = go (refusal (s .isOpen) c (length buf)) refl
         ≡ openNext (s .isOpen) c (checked k s c buf answers .calls) answers (checked k s c buf answers .ending)
     go Pass h =
         rw (lost-among (sessionTree s c buf) false answers (shaped s c buf))
-        (same-rule (lossAmong false (play (sessionTree s c buf) answers .calls) answers) (isConnect c) (s .isOpen) (play
-        (sessionTree s c buf) answers .ending)
-        (admitted-open (s .isOpen) c (length buf) h))
-    go (Refuse e) h = rw (refused-other (s .isOpen) c (length buf) e h)
+        (same-rule (isConnect c) (s .isOpen) _ (admitted-open (s .isOpen) c (length buf) h))
+    go (Refuse x) h = refl
 
 pub open-told : (s : Standing) (xs : List Told) → standingAfter s xs .isOpen ≡ openTold (s .isOpen) s xs
 unfolding standingAfter openTold

@@ -6,8 +6,7 @@ use mathlib.Core.List.{List}
 use native.Mathlib.Decide.{decLt}
 use native.Mathlib.Omega.{arith}
 use lib.ListN.{length, getD}
-use Rattle.wire.specs.Bytes.{leBytes}
-use Rattle.target.specs.Memory.{putWord}
+use Rattle.wire.specs.Bytes.{leBytes, putWord}
 use Rattle.agreement.specs.Demand3.{Bytes}
 use Rattle.agreement.specs.Laws.WordBytes.{Lies, before, within, beyond, lies, put-size, put-before, put-within, put-beyond}
 

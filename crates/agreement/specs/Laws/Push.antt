@@ -5,11 +5,11 @@ use mathlib.Core.Path.{_≡_, refl, sym, _∙_, subst}
 use mathlib.Core.List.{List}
 use native.Mathlib.Omega.{arith}
 use lib.ListN.{length, getD}
+use Rattle.wire.specs.Bytes.{putWord}
 use Rattle.wire.specs.Wire.{Memory}
 use Rattle.wire_memap.specs.Action.{transferring, _>>_}
 use Rattle.wire_memap.specs.Ports.{DRW, selectOf, apWrite}
 use Rattle.wire_memap.specs.Words.{rowAt, flush, push, pushAll}
-use Rattle.target.specs.Memory.{putWord}
 use Rattle.target.specs.Deliver.{transfer as delivered}
 use Rattle.target.specs.declared.Target.{Target}
 use Rattle.agreement.specs.Laws.Safe.{Stand, Post}

@@ -3,20 +3,14 @@ use Prim.Native.Nat.{ℕ, zero, suc, _+_, _*_, _≤_, _<_}
 use mathlib.Core.Path.{_≡_, refl, sym, ap, _∙_}
 use mathlib.Core.List.{List, _++_}
 use native.Mathlib.Nat.{zero-add}
-use native.Mathlib.Numerals.{add-one, add-two, add-three}
 use native.Mathlib.Decide.{decLt}
 use native.Mathlib.Omega.{arith}
 use lib.ListN.{length, getD, set, take, drop, length-set, length-append, length-drop, List·getD-append, List·getD-eq-default}
-use lib.Seq.{sets, length-sets, getD-set-other, getD-set-same, getD-append-add, getD-take, getD-drop, length-take-le}
-use Rattle.wire.specs.Bytes.{leBytes}
-use Rattle.target.specs.Memory.{putWord}
-use Rattle.call.specs.Bytes.{leWord, storeWords, storePart, loadWords, patchBytes, patchWord}
+use lib.Seq.{length-sets, getD-set-other, getD-set-same, getD-append-add, getD-take, getD-drop, length-take-le}
+use Rattle.wire.specs.Bytes.{leBytes, putWord, leWord}
+use Rattle.call.specs.Bytes.{storeWords, storePart, loadWords, patchBytes, patchWord}
 use Rattle.agreement.specs.Demand3.{Bytes}
 use Rattle.agreement.specs.Laws.WordBytes.{word-bytes, put-before, put-within}
-
--- the four bytes of a word stored in turn are the word put
-sets-put : (l : List ℕ) (i w : ℕ) → sets l i (leBytes w) ≡ putWord l i w
-sets-put l i w = rw (add-one, add-two, add-three)
 
 pub stored-size : (n : ℕ) (ws b : List ℕ) → length (storeWords n ws b) ≡ length b
 unfolding storeWords
@@ -27,7 +21,7 @@ pub stored-at : (n : ℕ) (ws b : List ℕ) → 4 * n ≤ length b → (q r : �
     → getD (storeWords n ws b) (4 * q + r) 0 ≡ getD (leBytes (getD ws q 0)) r 0
 unfolding storeWords
 stored-at zero ws b l q r h s = absurd (omega arith)
-stored-at (suc n) ws b l q r h s = rw (sets-put (storeWords n ws b) (4 * n) (getD ws n 0)) (go (decLt q n) (λ l x. stored-at n ws b l q r x s))
+stored-at (suc n) ws b l q r h s = go (decLt q n) (λ l x. stored-at n ws b l q r x s)
   where
     go : Dec (q < n) → (4 * n ≤ length b → q < n → getD (storeWords n ws b) (4 * q + r) 0 ≡ getD (leBytes (getD ws q 0)) r 0)
         → getD (putWord (storeWords n ws b) (4 * n) (getD ws n 0)) (4 * q + r) 0 ≡ getD (leBytes (getD ws q 0)) r 0

@@ -1,15 +1,14 @@
 -- What holds of a tree over every line: at its end, and wherever its budget may run out. Serves the proofs only.
 use Prim.Native.Nat.{ℕ, zero, suc}
 use mathlib.Core.Bool.{Bool, true, false, _||_}
-use mathlib.Core.List.{List, [], _∷_}
+use mathlib.Core.List.{List}
 use mathlib.Core.Path.{_≡_, refl}
-use Rattle.wire.specs.Wire.{Wire, Memory, done, ask, tell, play, Played, Ending, ended, spent}
-use Rattle.wire.specs.declared.Answer.{Answer}
+use Rattle.wire.specs.Wire.{Wire, Memory, done, ask, tell, play, Ending, ended, spent}
 use Rattle.wire.specs.declared.Outcome.{Outcome}
 use Rattle.target.specs.Line.{line}
 use Rattle.target.specs.declared.Target.{Target}
 use Rattle.target.specs.declared.Act.{Act}
-use Rattle.target_run.specs.Talk.{Talk, talk, actNow, actsThen}
+use Rattle.target_line.specs.Talk.{talk, actNow, actsThen}
 use Rattle.session_phase.specs.Phase.{loss}
 use Rattle.session_rules.specs.Session.{lostIn}
 

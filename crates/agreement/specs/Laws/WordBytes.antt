@@ -1,16 +1,14 @@
 -- Words and their bytes in a list: a word of bytes has these bytes, and a word that is put has its own and leaves the others.
 -- Serves the proofs only.
 use Prim.Native.Nat.{ℕ, zero, suc, _+_, _-_, _*_, _/_, _%_, _≤_, _<_}
-use mathlib.Core.Path.{_≡_, sym, ap, _∙_}
-use mathlib.Core.Logic.{_≢_}
-use mathlib.Core.List.{List}
+use mathlib.Core.Path.{_≡_, refl, sym, ap, _∙_}
+use mathlib.Core.List.{List, [], _∷_}
 use native.Mathlib.Nat.{add-zero}
 use native.Mathlib.Decide.{decLt}
 use native.Mathlib.Omega.{arith}
 use lib.ListN.{length, getD, set, length-set}
-use lib.Seq.{getD-set-other, getD-set-same}
-use Rattle.wire.specs.Bytes.{leBytes}
-use Rattle.target.specs.Memory.{wordAt, putWord}
+use lib.Seq.{sets, length-sets, getD-set-other, getD-set-same}
+use Rattle.wire.specs.Bytes.{leBytes, leWord, putWord}
 use Rattle.agreement.specs.Demand3.{Bytes}
 
 -- where a place j lies with respect to the four from p on
@@ -44,53 +42,38 @@ byte-3 : (a b c d : ℕ) → a < 256 → b < 256 → c < 256 → d < 256 → fou
 byte-3 a b c d p q r s = omega arith
 
 -- the bytes of a word at place p are those in the list
-pub word-bytes : (m : List ℕ) (p i : ℕ) → Bytes m → i < 4 → getD (leBytes (wordAt m p)) i 0 ≡ getD m (p + i) 0
+pub word-bytes : (m : List ℕ) (p i : ℕ) → Bytes m → i < 4 → getD (leBytes (leWord m p)) i 0 ≡ getD m (p + i) 0
 word-bytes m p zero b h = byte-0 _ _ _ _ (b p) (b (p + 1)) (b (p + 2)) (b (p + 3)) ∙ ap (λ (j : ℕ). getD m j 0) (sym (add-zero p))
 word-bytes m p (suc zero) b h = byte-1 _ _ _ _ (b p) (b (p + 1)) (b (p + 2)) (b (p + 3))
 word-bytes m p (suc (suc zero)) b h = byte-2 _ _ _ _ (b p) (b (p + 1)) (b (p + 2)) (b (p + 3))
 word-bytes m p (suc (suc (suc zero))) b h = byte-3 _ _ _ _ (b p) (b (p + 1)) (b (p + 2)) (b (p + 3))
 word-bytes m p (suc (suc (suc (suc i)))) b h = absurd (omega arith)
 
+-- a row of stores at each place: before it, in it, beyond it
+sets-before : (vs l : List ℕ) (p j : ℕ) → j < p → getD (sets l p vs) j 0 ≡ getD l j 0
+sets-before [] l p j h = refl
+sets-before (v ∷ vs) l p j h = sets-before vs (set l p v) (suc p) j (omega arith) ∙ getD-set-other l p j v 0 (omega arith)
+
+sets-within : (vs l : List ℕ) (p i : ℕ) → p + length vs ≤ length l → i < length vs → getD (sets l p vs) (p + i) 0 ≡ getD vs i 0
+sets-within [] l p i b h = absurd (omega arith)
+sets-within (v ∷ vs) l p zero b h =
+    rw (add-zero p) (sets-before vs (set l p v) (suc p) p (omega arith) ∙ getD-set-same l p v 0 (omega arith))
+sets-within (v ∷ vs) l p (suc i) b h =
+    let e : p + suc i ≡ suc p + i = omega arith in
+    rw e (sets-within vs (set l p v) (suc p) i (omega (arith, length-set l p v)) (omega arith))
+
+sets-beyond : (vs l : List ℕ) (p j : ℕ) → p + length vs ≤ j → getD (sets l p vs) j 0 ≡ getD l j 0
+sets-beyond [] l p j h = refl
+sets-beyond (v ∷ vs) l p j h = sets-beyond vs (set l p v) (suc p) j (omega arith) ∙ getD-set-other l p j v 0 (omega arith)
+
 pub put-size : (m : List ℕ) (p w : ℕ) → length (putWord m p w) ≡ length m
-put-size m p w = simp length-set
+put-size m p w = length-sets m p (leBytes w)
 
 pub put-before : (m : List ℕ) (p w j : ℕ) → j < p → getD (putWord m p w) j 0 ≡ getD m j 0
-put-before m p w j h =
-    let a : j ≢ p = omega arith in
-    let b : j ≢ p + 1 = omega arith in
-    let c : j ≢ p + 2 = omega arith in
-    let d : j ≢ p + 3 = omega arith in
-    simp getD-set-other
+put-before m p w j h = sets-before (leBytes w) m p j h
+
+pub put-within : (m : List ℕ) (p w : ℕ) → p + 4 ≤ length m → (i : ℕ) → i < 4 → getD (putWord m p w) (p + i) 0 ≡ getD (leBytes w) i 0
+put-within m p w l i h = sets-within (leBytes w) m p i l h
 
 pub put-beyond : (m : List ℕ) (p w j : ℕ) → p + 4 ≤ j → getD (putWord m p w) j 0 ≡ getD m j 0
-put-beyond m p w j h =
-    let a : j ≢ p = omega arith in
-    let b : j ≢ p + 1 = omega arith in
-    let c : j ≢ p + 2 = omega arith in
-    let d : j ≢ p + 3 = omega arith in
-    simp getD-set-other
-
-module _ (m : List ℕ) (p w : ℕ) (l : p + 4 ≤ length m) where
-  pub put-within : (i : ℕ) → i < 4 → getD (putWord m p w) (p + i) 0 ≡ getD (leBytes w) i 0
-  put-within zero h = rw add-zero put-0
-    where
-      put-0 : getD (putWord m p w) p 0 ≡ w % 256
-      put-0 =
-          let a : p ≢ p + 1 = omega arith in
-          let b : p ≢ p + 2 = omega arith in
-          let c : p ≢ p + 3 = omega arith in
-          let k : p < length m = omega arith in
-          simp (getD-set-other, getD-set-same)
-  put-within (suc zero) h =
-      let a : p + 1 ≢ p + 2 = omega arith in
-      let b : p + 1 ≢ p + 3 = omega arith in
-      let k : p + 1 < length (set m p (w % 256)) = simp length-set (omega arith) in
-      simp (getD-set-other, getD-set-same)
-  put-within (suc (suc zero)) h =
-      let a : p + 2 ≢ p + 3 = omega arith in
-      let k : p + 2 < length (set (set m p (w % 256)) (p + 1) (w / 256 % 256)) = simp length-set (omega arith) in
-      simp (getD-set-other, getD-set-same)
-  put-within (suc (suc (suc zero))) h =
-      let k : p + 3 < length (set (set (set m p (w % 256)) (p + 1) (w / 256 % 256)) (p + 2) (w / 256 / 256 % 256)) = simp length-set (omega arith) in
-      simp getD-set-same
-  put-within (suc (suc (suc (suc i)))) h = absurd (omega arith)
+put-beyond m p w j h = sets-beyond (leBytes w) m p j h

@@ -6,15 +6,15 @@ use mathlib.Core.List.{List}
 use native.Mathlib.Omega.{arith}
 use lib.ListN.{length, getD, set, drop, length-set}
 use lib.Seq.{getD-set-same}
+use Rattle.wire.specs.Bytes.{putWord, leWord}
 use Rattle.wire.specs.Wire.{Memory}
 use Rattle.wire.specs.declared.Outcome.the-variants.{Value, Failed}
 use Rattle.wire_memap.specs.Ops.{perform}
-use Rattle.call.specs.Bytes.{leWord, loadWords, patchWord}
+use Rattle.call.specs.Bytes.{loadWords, patchWord}
 use Rattle.call.specs.Job.{Job, exec, return, keep, just, _>>_}
 use Rattle.call.specs.declared.Change.the-variants as C
 use Rattle.wire_memap.specs.declared.Op.the-variants as O
 use Rattle.call_memory.specs.Memory.{memFrom, moveRun, moveBytes}
-use Rattle.target.specs.Memory.{putWord}
 use Rattle.target.specs.declared.Target.{Target}
 use Rattle.agreement.specs.Demand3.{Bytes}
 use Rattle.agreement.specs.Laws.Safe.{Stand, Post, Safe}

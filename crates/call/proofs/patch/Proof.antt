@@ -6,7 +6,8 @@ use mathlib.Core.List.{List}
 use native.Mathlib.Omega.{arith}
 use lib.ListN.{set, drop}
 use lib.Seq.{set-out, getD-drop}
-use Rattle.call.specs.Bytes.{patchBytes, leWord}
+use Rattle.wire.specs.Bytes.{leWord}
+use Rattle.call.specs.Bytes.{patchBytes}
 use Rattle.call.specs.Laws.Byte.{bytes-patched, turned, turns-end}
 use borrow.Author.Needs.{needs}
 use Rattle.call.proofs.patch.Statement.{statement}

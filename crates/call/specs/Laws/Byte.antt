@@ -7,8 +7,8 @@ use lib.Seq.{sets, take-all, set-out, length-sets}
 use native.Mathlib.Nat.{add-suc, zero-min, min-zero, suc-min-suc}
 use native.Mathlib.Numerals.{add-one}
 use native.Mathlib.Omega.{arith}
-use Rattle.wire.specs.Bytes.{leBytes}
-use Rattle.call.specs.Bytes.{leWord, storeWords, storePart, loadWords, patchBytes, fromPlace}
+use Rattle.wire.specs.Bytes.{leBytes, leWord}
+use Rattle.call.specs.Bytes.{storeWords, storePart, loadWords, patchBytes, fromPlace}
 
 -- what is stored past the end is dropped
 sets-out : (vs l : List ℕ) (i : ℕ) → length l ≤ i → sets l i vs ≡ l

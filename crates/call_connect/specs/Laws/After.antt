@@ -5,6 +5,7 @@ use mathlib.Core.List.{List, [], _∷_}
 use mathlib.Core.Path.{_≡_, refl, ap}
 use native.Mathlib.Omega.{arith}
 use lib.ListN.{length}
+use Rattle.wire.specs.Laws.Numbers.{less}
 use Rattle.wire.specs.declared.Call.{Call}
 use Rattle.wire.specs.declared.Call.the-variants as T
 use Rattle.wire.specs.declared.Pattern.the-variants as P
@@ -129,9 +130,6 @@ nth-past (c ∷ cs) (suc n) h = nth-past cs n (omega arith)
 -- before all calls of the list comes Connect
 pub nth-rest : (cs : List Call) (n : ℕ) → noneBelow (length cs) n → T.Connect ≡ nth cs n
 nth-rest cs n h = nth-past cs n (at-least (length cs) n h)
-
-less : (n : ℕ) → n ≡ suc n - 1
-less n = omega arith
 
 pub line-more : (how : How) (targetsel n : ℕ) → (n ≡ 0 → ⊥)
     → lineFrom how targetsel n ≡ op (O.Other (nth (line how targetsel) (n - 1))) (λ _. lineFrom how targetsel (n - 1)) fail

@@ -5,6 +5,7 @@ use mathlib.Core.Path.{_≡_, refl, ap, _∙_}
 use native.Mathlib.Omega.{arith}
 use lib.Dec.{eqb}
 use lib.ListN.{getD}
+use Rattle.wire.specs.Laws.Numbers.{less}
 use Rattle.wire.specs.declared.ArmError.the-variants as E
 use Rattle.wire.specs.declared.Outcome.the-variants.{Failed}
 use Rattle.wire_memap.specs.declared.Op.the-variants as O
@@ -48,9 +49,6 @@ use Rattle.call_core.specs.declared.Wait.the-variants as W
 use Rattle.call_core.specs.declared.Search.{Search}
 use Rattle.call_core.specs.declared.Plan.{Plan}
 use Rattle.call_core.specs.declared.Function.{Function}
-
-less : (n : ℕ) → n ≡ suc n - 1
-less n = omega arith
 
 none : (n : ℕ) → 0 + n ≡ n
 none n = omega arith

@@ -2,8 +2,8 @@
 use Prim.Native.Nat.{ℕ, zero, suc, _-_}
 use mathlib.Core.Bool.{Bool, true, false}
 use mathlib.Core.Path.{_≡_, refl, ap}
-use native.Mathlib.Omega.{arith}
 use lib.Dec.{eqb}
+use Rattle.wire.specs.Laws.Numbers.{less}
 use Rattle.wire.specs.declared.Outcome.{Outcome}
 use Rattle.wire.specs.declared.Outcome.the-variants.{Value, Failed}
 use Rattle.wire_memap.specs.declared.Op.the-variants as O
@@ -60,9 +60,6 @@ goesOn A.Write v = yes
 abbrev pub fpbAfter : FpbAt → Outcome → Job
 fpbAfter p (Value v) = goesOn p v
 fpbAfter p (Failed e) = fail e
-
-less : (n : ℕ) → n ≡ suc n - 1
-less n = omega arith
 
 -- one comparator, at a count that the code takes down by one
 pub seek-more : (value n left : ℕ) (free : Free) → (left ≡ 0 → ⊥)

@@ -5,6 +5,7 @@ use mathlib.Core.Bool.{Bool}
 use mathlib.Core.Path.{_≡_, refl, ap, _∙_}
 use native.Mathlib.Omega.{arith}
 use borrow.Author.Tests.{eq-eqb, ne-eqb, le-leb, lt-leb}
+use Rattle.wire.specs.Laws.Numbers.{less}
 use Rattle.call.specs.Job.{Job, _>>_}
 use Rattle.call_memory.specs.Memory.{memFrom, turn, moveWords, movePart, moveRun, moveBytes, runWords}
 
@@ -30,9 +31,6 @@ module _ (read : Bool) (stop len left : ℕ) (some : left ≡ 0 → ⊥) where
       one : (l : ℕ) → (l ≡ 0 → ⊥) → memFrom read stop len l 0 ≡ turn read (stop - l) (len - l) l (λ moved. memFrom read stop len (l - 1) (moved - 1))
       one zero h = absurd (h refl)
       one (suc l) h = ap (λ (n : ℕ). turn read (stop - suc l) (len - suc l) (suc l) (λ moved. memFrom read stop len n (moved - 1))) (less l)
-        where
-          less : (n : ℕ) → n ≡ suc n - 1
-          less n = omega arith
 
   mem-next : (moved : ℕ) → 1 ≤ moved → moved ≤ left → memFrom read stop len (left - 1) (moved - 1) ≡ memFrom read stop len (left - moved) 0
   mem-next moved h k = mem-passed read stop len (left - 1) (moved - 1) (omega arith) ∙ ap (λ (n : ℕ). memFrom read stop len n 0) (omega arith)

@@ -2,8 +2,8 @@
 use Prim.Native.Nat.{ℕ, zero, suc, _-_, _%_}
 use mathlib.Core.Bool.{Bool, true}
 use mathlib.Core.Path.{_≡_, refl, ap}
-use native.Mathlib.Omega.{arith}
 use lib.Dec.{eqb}
+use Rattle.wire.specs.Laws.Numbers.{less}
 use Rattle.wire.specs.declared.Outcome.{Outcome}
 use Rattle.wire.specs.declared.Outcome.the-variants.{Value, Failed}
 use Rattle.wire_memap.specs.declared.Op.{Op}
@@ -101,9 +101,6 @@ goesOn A.Last v = return 0
 abbrev pub nrfAfter : NrfAt → Outcome → Job
 nrfAfter p (Value v) = goesOn p v
 nrfAfter p (Failed e) = fail e
-
-less : (n : ℕ) → n ≡ suc n - 1
-less n = omega arith
 
 pub erased-more : (n : ℕ) → (n ≡ 0 → ⊥) → pollErased n ≡ op (O.ApRead nrf52.CTRLAP-ERASEALLSTATUS) (afterErased (n - 1)) fail
 unfolding pollErased

@@ -4,10 +4,10 @@ use mathlib.Core.Bool.{true, _&&_}
 use mathlib.Core.Path.{_≡_, refl, ap, sym, subst, _∙_}
 use mathlib.Core.List.{List, [], _∷_, _++_, append-nil}
 use native.Mathlib.Omega.{arith}
-use native.Mathlib.Numerals.{add-one}
-use lib.ListN.{length, set, getD, take, drop, replicate, drop-of-length-le}
+use lib.ListN.{length, set, getD, drop, drop-of-length-le}
 use lib.Seq.{sets, sets-eq, drop-cons}
-use Rattle.script_lines.specs.Laws.Puts.{Puts, Left, left-all, left-puts, left-none}
+use Rattle.wire.specs.Laws.Numbers.{less}
+use Rattle.script_lines.specs.Laws.Puts.{Left, left-all, left-puts, left-none}
 use Rattle.script_request.specs.BigEndian.{row}
 use Rattle.script.specs.Script.{goodAnswer, goodAnswers}
 
@@ -77,6 +77,3 @@ pub good-more : (xs : List ℕ) (n i : ℕ) → (n ≡ 0 → ⊥) → goodAnswer
 unfolding goodAnswers
 good-more xs zero i h = absurd (h refl)
 good-more xs (suc n) i h = ap (λ (m : ℕ). goodAnswer xs i && goodAnswers xs m (i + 7)) (less n)
-  where
-    less : (n : ℕ) → n ≡ suc n - 1
-    less n = omega arith

@@ -7,6 +7,7 @@ use native.Mathlib.Numerals.{add-one}
 use borrow.Author.Tests.{lt-ltb, le-ltb, le-leb, lt-leb}
 use lib.ListN.{length, getD, take, drop, replicate, length-take, drop-of-length-le}
 use lib.Seq.{drop-cons, take-at}
+use Rattle.wire.specs.Laws.Numbers.{less}
 use Rattle.wire.specs.Bytes.{handed, padded, patternBytes, leBytes}
 use Rattle.wire.specs.declared.Pattern.{Pattern}
 use Rattle.wire.specs.declared.Pattern.the-variants as P
@@ -34,9 +35,6 @@ pub digits-more : (k n : ℕ) → (k ≡ 0 → ⊥) → 10 ≤ n → digits k n 
 unfolding digits
 digits-more zero n h f = absurd (h refl)
 digits-more (suc k) n h f = rw (le-ltb n 10 f) (ap (λ (j : ℕ). digits j (n / 10) ++ (digit (n % 10) ∷ [])) (less k))
-  where
-    less : (k : ℕ) → k ≡ suc k - 1
-    less k = omega arith
 
 pub hex-none : (n : ℕ) → hex 0 n ≡ []
 unfolding hex
@@ -46,9 +44,6 @@ pub hex-more : (k n : ℕ) → (k ≡ 0 → ⊥) → hex k n ≡ hex (k - 1) (n 
 unfolding hex
 hex-more zero n h = absurd (h refl)
 hex-more (suc k) n h = ap (λ (j : ℕ). hex j (n / 16) ++ (digit (n % 16) ∷ [])) (less k)
-  where
-    less : (k : ℕ) → k ≡ suc k - 1
-    less k = omega arith
 
 pub start-none : (n : ℕ) → n ≡ 0 → dataStart n ≡ 0x44 ∷ []
 start-none n h = rw h

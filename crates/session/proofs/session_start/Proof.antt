@@ -9,7 +9,7 @@ session-start-spec =
     tie.close (tie.spec
     (λ c κs. search needs) (λ c κs. search needs) (λ c. search needs) (λ c κs. search needs) (λ c. search needs) (λ c κs. search needs)
     (λ c. let b = c .before .before .before .before in let t = b .before .before .before .args in
-    started-by (t .s) (t .c) (t .buf .now) _ _ _ _ _ _ (b .before .is-open .ensures) (b .check-call .ensures) (c .before .before .e .given .1)
+    started-by (t .s) (t .c) (t .buf .now) _ _ _ _ _ _ (b .before .is-open .ensures) (b .check-call .ensures) (c .before .before .x .given .1)
     (c .refused .ensures _))
     (λ c. search needs)
     (λ c. let b = c .before .before .before .before .before .before in let t = b .before .before .before .args in

@@ -1,13 +1,7 @@
--- Without a loss a connect goes by its result. Of any other call the definition asks nothing more, whatever its result (`either`).
-use mathlib.Core.Bool.{Bool, true, false, _||_}
-use mathlib.Core.Path.{_≡_, refl}
+-- Without a loss a connect goes by its result. Of any other call the definition asks nothing more.
 use borrow.Author.Needs.{needs}
 use Rattle.session_phase.proofs.phase_ended.Statement.{statement}
 use Rattle.session_phase.proofs.phase_ended.Tie as tie
-
-either : (ok : Bool) → (ok || true) ≡ true
-either true = refl
-either false = refl
 
 pub phase-ended-spec : {M : Type 1} → statement M
 phase-ended-spec =
@@ -16,5 +10,5 @@ phase-ended-spec =
     (λ c. simp (c .before .before .before .if1 .left) (simp (c .before .enum-told .given .1) (simp (c .if2 .taken))))
     (λ c. search needs) (λ c. search needs)
     (λ c. simp (c .before .before .before .if1 .left) (simp (c .before .enum-told .given .1) (simp (c .if2 .left))))
-    (λ c. simp (c .before .before .if1 .left) (simp (c .enum-told2 .given .1) (simp (either (c .before .before .before .args .ok)))))
-    (λ c. simp (c .before .before .if1 .left) (simp (c .enum-told3 .given .1) (simp (either (c .before .before .before .args .ok))))))
+    (λ c. simp (c .before .before .if1 .left) (simp (c .enum-told2 .given .1)))
+    (λ c. simp (c .before .before .if1 .left) (simp (c .enum-told3 .given .1))))

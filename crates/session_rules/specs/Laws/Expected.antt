@@ -3,25 +3,23 @@ use Prim.Native.Nat.{ℕ, _%_}
 use mathlib.Core.Bool.{true, false}
 use mathlib.Core.List.{List, []}
 use mathlib.Core.Path.{_≡_}
-use Rattle.wire.specs.Wire.{ended}
 use Rattle.wire.specs.declared.Answer.{Answer}
-use Rattle.wire.specs.declared.ArmError.the-variants as E
-use Rattle.wire.specs.declared.Outcome.the-variants.{Failed}
 use Rattle.call_fpb.specs.declared.FpbCall.{FpbCall}
 use Rattle.session_rules.specs.Admits.{breakpoint}
-use Rattle.session_rules.specs.Session.{Standing, called, checked}
+use Rattle.session_rules.specs.Session.{Standing, refused, called, checked}
 use Rattle.session_rules.specs.declared.SessionCall.the-variants as S
+use Rattle.session_rules.specs.declared.Refusal.the-variants as R
 use Rattle.session_rules.specs.declared.Check.the-variants.{Pass}
 
 module _ (s : Standing) (c : FpbCall) (buf : List ℕ) (answers : List Answer) where
   -- Align: nothing is sent, nothing changes, and the session is open as before
   odd-refused : s .isOpen ≡ true → breakpoint c % 2 ≡ 1
-      → called s (S.Fpb c) buf answers ≡ record { calls = []; ending = ended (Failed E.Align); buf = buf; after = s }
+      → called s (S.Fpb c) buf answers ≡ record { calls = []; ending = refused R.Align; buf = buf; after = s }
   odd-refused o odd = simp (o, odd)
 
   -- a closed session says NoSession, whatever the address
   closed-first : s .isOpen ≡ false
-      → called s (S.Fpb c) buf answers ≡ record { calls = []; ending = ended (Failed E.NoSession); buf = buf; after = s }
+      → called s (S.Fpb c) buf answers ≡ record { calls = []; ending = refused R.NoSession; buf = buf; after = s }
   closed-first o = simp o
 
   -- an even address, of any halfword, is the engine's call

@@ -1,12 +1,12 @@
 -- A list of session calls, call by call. Serves the proofs only.
-use Prim.Native.Nat.{ℕ, zero, suc, _+_, _≤_}
-use mathlib.Core.List.{List, [], _∷_, _++_, append-assoc}
-use mathlib.Core.Path.{_≡_, refl, sym, ap, subst, _∙_}
+use Prim.Native.Nat.{ℕ, _+_, _≤_}
+use mathlib.Core.List.{List, _∷_, _++_, append-assoc}
+use mathlib.Core.Path.{_≡_, refl, sym, ap, _∙_}
 use native.Mathlib.Omega.{arith}
 use native.Mathlib.Numerals.{add-one}
 use lib.ListN.{length, take, drop, set, length-append}
 use lib.Seq.{sets, take-at, drop-at, length-take-le}
-use Rattle.wire_numbers.specs.Results.{endingOf}
+use Rattle.session.specs.Step.{reported}
 use Rattle.target.specs.declared.Act.{Act}
 use Rattle.agreement.specs.Demand3.{Item, Moment, Made, made, history, lastOf}
 use Rattle.session_run.specs.Items.{codeOf, resultsOf, buffersAfter}
@@ -49,13 +49,13 @@ module _ {x₀ : Moment} {ms₀ : List Made} {bytes₀ results₀ : List ℕ} wh
       → place ≤ length bytes → length (it .buf) ≡ k → length lent ≡ k → lent ≡ made x it acts .came .buf
       → Going x₀ ms₀ bytes₀ results₀ (i + 1) (made x it acts .after)
       (history (made x it acts .after) items (drop (length (made x it acts .answers)) acts)) (place + k)
-      (take place bytes ++ (lent ++ drop k (drop place bytes))) (set results i (codeOf (endingOf (made x it acts .came .ending))))
+      (take place bytes ++ (lent ++ drop k (drop place bytes))) (set results i (codeOf (reported (made x it acts .came .ending))))
   unfolding history
   going-more i x it items acts place k bytes results lent g in′ whole all same = record {
     calls = omega (arith, g .calls);
     last = g .last;
     buffers = g .buffers ∙ split place k bytes lent in′ all (buffersAfter ms) (made x it acts .came .buf) (length (it .buf)) same whole;
-    endings = g .endings ∙ ap (λ (n : ℕ). sets (set results i (codeOf (endingOf (made x it acts .came .ending)))) n (resultsOf ms)) (sym
+    endings = g .endings ∙ ap (λ (n : ℕ). sets (set results i (codeOf (reported (made x it acts .came .ending)))) n (resultsOf ms)) (sym
         (add-one i));
   }
     where

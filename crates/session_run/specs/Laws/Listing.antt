@@ -4,6 +4,7 @@ use mathlib.Core.List.{List, [], _∷_, _++_}
 use mathlib.Core.Path.{_≡_, refl, sym, ap, subst, _∙_}
 use native.Mathlib.Omega.{arith}
 use lib.ListN.{length, take, drop, set, length-take, length-drop, length-append, take-append-drop}
+use Rattle.wire.specs.Laws.Numbers.{less}
 use Rattle.call.specs.Laws.Byte.{take-min, drop-min}
 use Rattle.target.specs.declared.Target.{Target}
 use Rattle.target.specs.declared.Act.{Act}
@@ -47,10 +48,7 @@ items-more : (n at : ℕ) (ws bytes : List ℕ) → 0 < n
 unfolding itemsFrom
 items-more zero at ws bytes h = absurd (omega (arith, h))
 items-more (suc n) at ws bytes h =
-    ap (λ (m : ℕ). itemThen (callAt ws at) (budgetAt ws at) (take (sizeAt ws at) bytes) (itemsFrom m (at + ITEM) ws (drop (sizeAt ws at) bytes))) less
-  where
-    less : n ≡ suc n - 1
-    less = omega arith
+    ap (λ (m : ℕ). itemThen (callAt ws at) (budgetAt ws at) (take (sizeAt ws at) bytes) (itemsFrom m (at + ITEM) ws (drop (sizeAt ws at) bytes))) (less n)
 
 module _ (ws : List ℕ) (n i : ℕ) (bytes : List ℕ) (in′ : i < n) where
   more : 0 < n - i

@@ -1,17 +1,14 @@
 -- A walk that has arrived, with a session that stands there, is what `made` says. Serves the proofs only.
 use Prim.Native.Nat.{ℕ}
-use mathlib.Core.Bool.{Bool, true, false, not, _&&_}
-use mathlib.Core.List.{List, []}
+use mathlib.Core.Bool.{Bool, true, false}
+use mathlib.Core.List.{List}
 use mathlib.Core.Path.{_≡_, refl, sym, ap, _∙_}
 use lib.ListN.{length}
 use native.Mathlib.Omega.{arith}
-use Rattle.wire.specs.Wire.{Wire, Memory, memoryOf, done, ask, tell, play, Ending, ended, spent, succeeds}
-use Rattle.wire.specs.declared.ArmError.{ArmError}
+use Rattle.wire.specs.Wire.{Wire, Memory, done, ask, tell, Ending, ended, spent, succeeds}
 use Rattle.wire.specs.declared.Outcome.{Outcome}
-use Rattle.wire.specs.declared.Outcome.the-variants.{Value, Failed}
 use Rattle.wire.specs.declared.Remembered.{Remembered}
-use Rattle.wire_numbers.specs.Results.{endingOf, resultOf}
-use Rattle.wire_numbers.specs.declared.CallEnding.{CallEnding}
+use Rattle.wire_numbers.specs.Results.{endingOf}
 use Rattle.engine_calls.specs.Calls.{coreFrame, frameFor, leave, frameLeft}
 use Rattle.engine_calls.specs.declared.Frame.{Frame}
 use Rattle.engine_calls.specs.declared.Frame.the-variants as F
@@ -19,20 +16,18 @@ use Rattle.engine.specs.Step.{memoryIn}
 use Rattle.engine.specs.Laws.Step.{Waits}
 use Rattle.target.specs.declared.Target.{Target}
 use Rattle.target.specs.declared.Act.{Act}
-use Rattle.target_run.specs.Talk.{Talk, talk, silent}
+use Rattle.target_line.specs.Talk.{Talk, talk}
 use Rattle.session_rules.specs.Admits.{engineCall, isConnect, refusal}
-use Rattle.session_phase.specs.Phase.{opensAfter, isOpen, connects, phaseAfter}
+use Rattle.session_phase.specs.Phase.{isSpent, opensAfter, isOpen, connects, phaseEnded}
 use Rattle.session_phase.specs.Laws.Phase.{open-phase}
-use Rattle.session_rules.specs.Session.{Standing, kindBy, kindOf, frameBy, sessionTree}
-use Rattle.session.specs.Step.{phaseIn, frameIn, standing, Answers}
+use Rattle.session_rules.specs.Session.{Standing, refused, kindBy, kindOf, frameBy, sessionTree}
+use Rattle.session.specs.Step.{phaseIn, frameIn, standing, reported, Answers}
 use Rattle.session_rules.specs.declared.SessionCall.{SessionCall}
 use Rattle.session_rules.specs.declared.SessionCall.the-variants as S
+use Rattle.session_rules.specs.declared.Refusal.{Refusal}
 use Rattle.session_rules.specs.declared.Check.{Check}
 use Rattle.session_rules.specs.declared.Check.the-variants.{Pass, Refuse}
 use Rattle.session_phase.specs.declared.Kind.{Kind}
-use Rattle.session_phase.specs.declared.Kind.the-variants as K
-use Rattle.session_phase.specs.declared.Phase.{Phase}
-use Rattle.session_phase.specs.declared.Phase.the-variants as P
 use Rattle.session.specs.declared.Session.{Session}
 use Rattle.session.specs.declared.Reply.{Reply}
 use Rattle.agreement.specs.Demand3.{Moment, made, madeIf}
@@ -75,12 +70,12 @@ leave-fails F.Nowhere row frame = refl
 leave-fails F.Found row frame = refl
 leave-fails F.Left row frame = refl
 
-phase-opens : (c : SessionCall) (lost : Bool) (o : Outcome) → isOpen (phaseAfter (kindOf c) lost o) ≡ opensAfter (isConnect c) lost (ended o)
-phase-opens c lost o = open-phase _ ∙ ap (λ (connect : Bool). opensAfter connect lost (ended o)) (kind-connects c)
+phase-opens : (c : SessionCall) (lost ok : Bool) → isOpen (phaseEnded (kindOf c) lost ok) ≡ opensAfter (isConnect c) lost false ok
+phase-opens c lost ok = open-phase _ ∙ ap (λ (connect : Bool). opensAfter connect lost false ok) (kind-connects c)
 
-spent-closed : (lost : Bool) → false ≡ not lost && false
-spent-closed true = refl
-spent-closed false = refl
+spent-closed : (connect lost : Bool) → false ≡ opensAfter connect lost true false
+spent-closed connect true = refl
+spent-closed connect false = refl
 
 standing-is : (a b : Bool) (r q : Remembered) (f g : List ℕ) → a ≡ b → r ≡ q → f ≡ g
     → _≡_ {A = Standing} (record { isOpen = a; remembered = r; frame = f }) (record { isOpen = b; remembered = q; frame = g })
@@ -89,7 +84,7 @@ standing-is a b r q f g h i j = rw (h, i, j)
 -- the session at the end of a call, and where its budget ended
 pub record Settles (s₀ : Session) (c : SessionCall) (lost : Bool) (m : Memory) (e : Ending) (s : Session) (lent : List ℕ) : Type 0 where
   pub stands : standing s ≡ record {
-    isOpen = opensAfter (isConnect c) lost e;
+    isOpen = opensAfter (isConnect c) lost (isSpent e) (succeeds e);
     remembered = m .remembered;
     frame = frameLeft (engineCall c) e
         (m .words) (s₀ .frame);
@@ -99,9 +94,9 @@ pub record Settles (s₀ : Session) (c : SessionCall) (lost : Bool) (m : Memory)
 pub settles-done : (s₀ : Session) (c : SessionCall) (lost : Bool) (m : Memory) (o : Outcome) (s : Session) (r : Reply) (lent : List ℕ)
     → Answers (kindOf c) lost (s₀ .frame) (done m o) s r lent → Settles s₀ c lost m (ended o) s lent
 settles-done s₀ c lost m o s r lent h = record {
-  stands = standing-is (isOpen (s .phase)) (opensAfter (isConnect c) lost (ended o)) (s .state .remembered) (m .remembered) (s .frame) (frameLeft
+  stands = standing-is (isOpen (s .phase)) (opensAfter (isConnect c) lost false (succeeds (ended o))) (s .state .remembered) (m .remembered) (s .frame) (frameLeft
       (engineCall c) (ended o) (m .words) (s₀ .frame))
-      (ap isOpen (h .phase) ∙ phase-opens c lost o) (ap (λ (x : Memory). x .remembered) (h .memory))
+      (ap isOpen (h .phase) ∙ phase-opens c lost (succeeds (ended o))) (ap (λ (x : Memory). x .remembered) (h .memory))
       (h .frame ∙ frame-kind c (succeeds (ended o)) (m .words) (s₀ .frame));
   buf = ap (λ (x : Memory). x .buf) (h .memory);
 }
@@ -119,9 +114,9 @@ running-frame kind (tell m c w) f g = refl
 pub settles-spent : (s₀ : Session) (c : SessionCall) (lost : Bool) (w : Wire) (s : Session) (r : Reply) (lent : List ℕ) → Waits w
     → Answers (kindOf c) lost (s₀ .frame) w s r lent → Settles s₀ c lost (memoryIn w) spent s lent
 settles-spent s₀ c lost w s r lent g h = record {
-  stands = standing-is (isOpen (s .phase)) (opensAfter (isConnect c) lost spent) (s .state .remembered) (memoryIn w .remembered) (s .frame)
+  stands = standing-is (isOpen (s .phase)) (opensAfter (isConnect c) lost true false) (s .state .remembered) (memoryIn w .remembered) (s .frame)
       (frameLeft (engineCall c) spent (memoryIn w .words) (s₀ .frame))
-      (ap isOpen (h .phase) ∙ running-closed (kindOf c) lost w g ∙ spent-closed lost) (ap (λ (x : Memory). x .remembered) (h .memory))
+      (ap isOpen (h .phase) ∙ running-closed (kindOf c) lost w g ∙ spent-closed (isConnect c) lost) (ap (λ (x : Memory). x .remembered) (h .memory))
       (h .frame ∙ running-frame (kindOf c) w (s₀ .frame) g ∙ leave-fails (frameFor (engineCall c)) (memoryIn w .words) (s₀ .frame));
   buf = ap (λ (x : Memory). x .buf) (h .memory);
 }
@@ -156,14 +151,14 @@ module _ (s₀ : Session) (c : SessionCall) (budget : ℕ) (buf₀ : List ℕ) (
       → CallRuns (made x₀ (item c budget buf₀) acts) r mem lent
   passed p = passed-by (refusal (isOpen (s₀ .phase)) c (length buf₀)) p
 
-  refused-by : (k : Check) (x : ArmError) → k ≡ Refuse x → (r : CallRan) → r .count ≡ 0 → r .ending ≡ resultOf (Failed x) → r .session ≡ s₀
+  refused-by : (k : Check) (x : Refusal) → k ≡ Refuse x → (r : CallRan) → r .count ≡ 0 → r .ending ≡ reported (refused x) → r .session ≡ s₀
       → r .target ≡ t₀
       → CallRuns (madeIf k x₀ (item c budget buf₀) acts) r mem₀ buf₀
   refused-by (Refuse y) x p r n f s t =
       let q : y ≡ x = cc in
       record {
         count = n;
-        ending = f ∙ ap (λ (z : ArmError). resultOf (Failed z)) (sym q);
+        ending = f ∙ ap (λ (z : Refusal). reported (refused z)) (sym q);
         session = ap standing s;
         target = t;
         mem = refl;
@@ -173,7 +168,7 @@ module _ (s₀ : Session) (c : SessionCall) (budget : ℕ) (buf₀ : List ℕ) (
   refused-by Pass x p r n f s t = let z : _≡_ {A = ℕ} 0 1 = cc in absurd (omega arith)
 
   -- a call that was
-  pub refused : (x : ArmError) → refusal (isOpen (s₀ .phase)) c (length buf₀) ≡ Refuse x → (r : CallRan) → r .count ≡ 0
-      → r .ending ≡ resultOf (Failed x)
+  pub was-refused : (x : Refusal) → refusal (isOpen (s₀ .phase)) c (length buf₀) ≡ Refuse x → (r : CallRan) → r .count ≡ 0
+      → r .ending ≡ reported (refused x)
       → r .session ≡ s₀ → r .target ≡ t₀ → CallRuns (made x₀ (item c budget buf₀) acts) r mem₀ buf₀
-  refused x p = refused-by (refusal (isOpen (s₀ .phase)) c (length buf₀)) x p
+  was-refused x p = refused-by (refusal (isOpen (s₀ .phase)) c (length buf₀)) x p

@@ -14,7 +14,7 @@ use Rattle.target.specs.Line.{line, told, actOf}
 use Rattle.target.specs.declared.Delivered.{Delivered}
 use Rattle.target.specs.declared.Target.{Target}
 use Rattle.target.specs.declared.Act.{Act}
-use Rattle.target_run.specs.Talk.{actNow, actsThen}
+use Rattle.target_line.specs.Talk.{actNow, actsThen}
 use Rattle.session.specs.Step.{Stepped}
 use Rattle.session_rules.specs.declared.SessionCall.{SessionCall}
 use Rattle.session.specs.declared.Session.{Session}

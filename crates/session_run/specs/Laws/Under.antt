@@ -1,21 +1,18 @@
 -- A session call under way over target and line: what holds at every turn of its loop. Serves the proofs only.
-use Prim.Native.Nat.{ℕ, zero, suc, _+_, _-_, _<_}
-use mathlib.Core.Bool.{Bool, true, false, _||_}
-use mathlib.Core.List.{List, []}
-use mathlib.Core.Path.{_≡_, refl, sym, ap, subst, _∙_}
+use Prim.Native.Nat.{ℕ, suc, _+_, _-_, _<_}
+use mathlib.Core.Bool.{Bool, false, _||_}
+use mathlib.Core.List.{List}
+use mathlib.Core.Path.{_≡_, refl, sym, subst, _∙_}
 use native.Mathlib.Omega.{arith}
 use lib.ListN.{length}
 use Rattle.wire.specs.Wire.{Wire, Memory, done, ask, tell, follow, ended, spent}
 use Rattle.wire.specs.Laws.Flight.{flight}
 use Rattle.wire.specs.declared.Call.{Call}
 use Rattle.wire.specs.declared.Answer.{Answer}
-use Rattle.wire.specs.declared.ArmError.{ArmError}
 use Rattle.wire.specs.declared.Outcome.{Outcome}
-use Rattle.wire.specs.declared.Outcome.the-variants.{Value, Failed}
 use Rattle.wire.specs.declared.Mode.{Mode}
 use Rattle.wire.specs.declared.Mode.the-variants as D
 use Rattle.wire.specs.declared.Transfer.{Transfer}
-use Rattle.wire_numbers.specs.Results.{resultOf}
 use Rattle.wire_numbers.specs.declared.CallEnding.{CallEnding}
 use Rattle.wire_numbers.specs.declared.TransportCall.{TransportCall}
 use Rattle.wire.specs.Laws.Flight.{dueOf}
@@ -24,16 +21,16 @@ use Rattle.engine.specs.Step.{nextOf, memoryIn}
 use Rattle.engine.specs.Laws.Step.{Waits, flies}
 use Rattle.engine.specs.declared.NextStep.{NextStep}
 use Rattle.engine.specs.declared.NextStep.the-variants as N
-use Rattle.engine.specs.declared.State.{State}
 use Rattle.target.specs.Line.{line}
 use Rattle.target.specs.declared.Target.{Target}
 use Rattle.target.specs.declared.Act.{Act}
-use Rattle.target_run.specs.Talk.{Talk, talk, actNow, actsThen}
+use Rattle.target_line.specs.Talk.{Talk, talk, actNow, actsThen}
 use Rattle.session_rules.specs.Admits.{refusal}
 use Rattle.session_phase.specs.Phase.{isOpen}
-use Rattle.session_rules.specs.Session.{kindOf}
-use Rattle.session.specs.Step.{phaseIn, lostBy, Answers, Refused, StartedBy, Started, SteppedIn, Stepped}
+use Rattle.session_rules.specs.Session.{refused, kindOf}
+use Rattle.session.specs.Step.{phaseIn, lostBy, reported, Answers, Refused, StartedBy, Started, SteppedIn, Stepped}
 use Rattle.session_rules.specs.declared.SessionCall.{SessionCall}
+use Rattle.session_rules.specs.declared.Refusal.{Refusal}
 use Rattle.session_rules.specs.declared.Check.{Check}
 use Rattle.session_rules.specs.declared.Check.the-variants.{Pass, Refuse}
 use Rattle.session_phase.specs.declared.Kind.{Kind}
@@ -42,9 +39,8 @@ use Rattle.session_phase.specs.declared.Phase.the-variants as P
 use Rattle.session.specs.declared.Session.{Session}
 use Rattle.session.specs.declared.Reply.{Reply}
 use Rattle.agreement.specs.Demand3.{made}
-use Rattle.session_run.specs.declared.CallRan.{CallRan}
 use Rattle.session_run.specs.Ran.{item, CallRuns}
-use Rattle.session_run.specs.Laws.Ran.{x₀, tree, heard, passed, refused, running-frame, settles-done, settles-spent}
+use Rattle.session_run.specs.Laws.Ran.{x₀, tree, heard, passed, was-refused, running-frame, settles-done, settles-spent}
 use Rattle.session_run.specs.Laws.Walk.{Walked, walk-start, walk-more, walk-done, walk-spent, dueIn}
 
 -- the transport call that a session's call has due
@@ -78,7 +74,7 @@ stepped-at p kind lost e before a buf₀ s r buf h = subst (λ (q : Phase). Step
 module _ (s₀ : Session) (c : SessionCall) (budget : ℕ) (buf₀ : List ℕ) (acts₀ : List Act) (t₀ : Target) (mem₀ : List ℕ) where
   -- after i transport calls: the call was refused, or the session stands at some tree of the walk
   pub data Under (i : ℕ) (acts : List Act) (s : Session) (r : Reply) (t : Target) (mem buf : List ℕ) : Type 0 where
-    halted : (x : ArmError) → refusal (isOpen (s₀ .phase)) c (length buf₀) ≡ Refuse x → i ≡ 0 → Refused x s₀ s r buf₀ buf → t ≡ t₀ → mem ≡ mem₀
+    halted : (x : Refusal) → refusal (isOpen (s₀ .phase)) c (length buf₀) ≡ Refuse x → i ≡ 0 → Refused x s₀ s r buf₀ buf → t ≡ t₀ → mem ≡ mem₀
         → Under i acts s r t mem buf
     walking : refusal (isOpen (s₀ .phase)) c (length buf₀) ≡ Pass → (w : Wire) (lost : Bool)
         → Walked i lost (tree s₀ c budget buf₀ acts₀ t₀ mem₀) (heard s₀ c budget buf₀ acts₀ t₀ mem₀) w (talk w (budget - i) acts t mem)
@@ -109,7 +105,7 @@ module _ (s₀ : Session) (c : SessionCall) (budget : ℕ) (buf₀ : List ℕ) (
       → Stepped s (line t mem (dueNow s) (actNow acts) .answer) buf s′ r′ buf′
       → Under (i + 1) (actsThen acts) s′ r′ (line t mem (dueNow s) (actNow acts) .target) (line t mem (dueNow s) (actNow acts) .mem) buf′
   under-more i acts s r t mem buf x s′ r′ buf′ n l (halted y e z h p q) st =
-      let k : _≡_ {A = NextStep} (N.Make x) (N.Finish (resultOf (Failed y))) = n ∙ h .next in
+      let k : _≡_ {A = NextStep} (N.Make x) (N.Finish (reported (refused y))) = n ∙ h .next in
       let z : _≡_ {A = ℕ} 0 1 = cc in absurd (omega arith)
   under-more i acts s r t mem buf x s′ r′ buf′ n l (walking e w lost wk an) st =
       walking e (follow w A) (lost || lostBy w A)
@@ -166,8 +162,8 @@ module _ (s₀ : Session) (c : SessionCall) (budget : ℕ) (buf₀ : List ℕ) (
             at;
       }) mem buf
   under-finish i acts s r t mem buf e at n (halted x q z h p o) =
-      let f : _≡_ {A = NextStep} (N.Finish e) (N.Finish (resultOf (Failed x))) = n ∙ h .next in
-      rw (o, h .lent) (refused s₀ c budget buf₀ acts₀ t₀ mem₀ x q (record { session = s; target = t; count = i; ending = e; at = at }) z (cc)
+      let f : _≡_ {A = NextStep} (N.Finish e) (N.Finish (reported (refused x))) = n ∙ h .next in
+      rw (o, h .lent) (was-refused s₀ c budget buf₀ acts₀ t₀ mem₀ x q (record { session = s; target = t; count = i; ending = e; at = at }) z (cc)
       (h .session) p)
   under-finish i acts s r t mem buf e at n (walking p w lost wk an) = finished i acts s r t mem buf e at p w lost (n ∙ an .next) wk an
 
@@ -178,7 +174,7 @@ module _ (s₀ : Session) (c : SessionCall) (budget : ℕ) (buf₀ : List ℕ) (
       → CallRuns (made (x₀ s₀ c budget buf₀ acts₀ t₀ mem₀) (item c budget buf₀) acts₀)
       (record { session = s; target = t; count = i; ending = record { number = 11; value = 0 }; at = at }) mem buf
   under-spent i acts s r t mem buf x at n l (halted y e z h p q) =
-      let k : _≡_ {A = NextStep} (N.Make x) (N.Finish (resultOf (Failed y))) = n ∙ h .next in
+      let k : _≡_ {A = NextStep} (N.Make x) (N.Finish (reported (refused y))) = n ∙ h .next in
       let z : _≡_ {A = ℕ} 0 1 = cc in absurd (omega arith)
   under-spent i acts s r t mem buf x at n l (walking p w lost wk an) =
       passed s₀ c budget buf₀ acts₀ t₀ mem₀ p (record { session = s; target = t; count = i; ending = record { number = 11; value = 0 }; at = at })

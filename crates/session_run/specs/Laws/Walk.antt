@@ -1,18 +1,17 @@
 -- How a call walks its tree over target and line, transport call by transport call. Serves the proofs only.
-use Prim.Native.Nat.{ℕ, zero, suc, _+_}
-use mathlib.Core.Bool.{Bool, true, false, _||_}
-use mathlib.Core.List.{List, [], _∷_}
+use Prim.Native.Nat.{ℕ, suc, _+_}
+use mathlib.Core.Bool.{Bool, false, _||_}
+use mathlib.Core.List.{List}
 use mathlib.Core.Path.{_≡_, refl, sym, _∙_}
 use native.Mathlib.Omega.{arith}
 use lib.ListN.{length}
-use Rattle.wire.specs.Wire.{Wire, Memory, done, ask, tell, follow, play, Played, Ending, ended, spent}
+use Rattle.wire.specs.Wire.{Wire, Memory, done, ask, tell, follow, play, Ending, ended, spent}
 use Rattle.wire.specs.declared.Call.{Call}
-use Rattle.wire.specs.declared.Answer.{Answer}
 use Rattle.wire.specs.declared.Outcome.{Outcome}
 use Rattle.target.specs.Line.{line}
 use Rattle.target.specs.declared.Target.{Target}
 use Rattle.target.specs.declared.Act.{Act}
-use Rattle.target_run.specs.Talk.{Talk, talk, silent, heardFirst, actNow, actsThen}
+use Rattle.target_line.specs.Talk.{Talk, talk, actNow, actsThen}
 use Rattle.engine.specs.Step.{memoryIn}
 use Rattle.engine.specs.Laws.Step.{Waits}
 use Rattle.session_phase.specs.Phase.{loss}

@@ -2,9 +2,10 @@
 -- memory by `store` alone.
 use mathlib.Core.Path.{_≡_, refl, _∙_}
 use mathlib.Core.List.{List, [], _∷_}
-use Prim.Native.Nat.{ℕ, zero, suc, _+_, _-_, _*_, _/_, _%_, _≤_, _<_}
+use Prim.Native.Nat.{ℕ, zero, suc, _-_, _/_, _%_, _<_}
 use native.Mathlib.Omega.{arith}
 use lib.ListN.{length, getD, set, length-set}
+use Rattle.wire.specs.Bytes.{putWord}
 use Rattle.wire.specs.declared.Call.{Call}
 use Rattle.wire.specs.declared.Call.the-variants as C
 use Rattle.target.specs.declared.Target.{Target}
@@ -17,10 +18,10 @@ use Rattle.target.specs.declared.ApRegister.{ApRegister}
 use Rattle.target.specs.declared.ApRegister.the-variants as A
 use Rattle.target.specs.declared.Act.{Act}
 use Rattle.target.specs.declared.Act.the-variants.{Deliver, Wait, Lose}
-use Rattle.target.specs.Memory.{inMemory, putWord, store}
+use Rattle.target.specs.Memory.{inMemory}
 use Rattle.target.specs.Decode.{registerOf}
 use Rattle.target.specs.DebugPort.{reachDp}
-use Rattle.target.specs.MemAp.{reachAp, memoryAfter, wordAddress, cswKept, advanced, failed, posted}
+use Rattle.target.specs.MemAp.{reachAp, memoryAfter, wordAddress, cswKept}
 use Rattle.target.specs.Deliver.{Delivery, reach, barred, transfer, deliver}
 use Rattle.target.specs.Laws.Deliver.{either}
 use Rattle.target.specs.Line.{Heard, line}
@@ -84,8 +85,8 @@ then-lasts p q = record { size = q .size ∙ p .size; bytes = λ b. q .bytes (p 
 
 lasts-put : (m : List ℕ) (i w : ℕ) → Lasts m (putWord m i w)
 lasts-put m i w =
-    then-lasts (lasts-set m i (w % 256) (byte w)) (then-lasts (lasts-set _ (i + 1) _ (byte (w / 256)))
-    (then-lasts (lasts-set _ (i + 2) _ (byte (w / 256 / 256))) (lasts-set _ (i + 3) _ (byte (w / 256 / 256 / 256)))))
+    then-lasts (lasts-set m i (w % 256) (byte w)) (then-lasts (lasts-set _ (suc i) _ (byte (w / 256)))
+    (then-lasts (lasts-set _ (suc (suc i)) _ (byte (w / 256 / 256))) (lasts-set _ (suc (suc (suc i))) _ (byte (w / 256 / 256 / 256)))))
   where
     byte : (v : ℕ) → v % 256 < 256
     byte v = omega arith

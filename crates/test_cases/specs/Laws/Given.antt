@@ -16,7 +16,7 @@ use Rattle.engine_calls.specs.declared.EngineCall.{EngineCall}
 use Rattle.engine_calls.specs.declared.EngineCall.the-variants as N
 use Rattle.target.specs.DebugPort.{powered}
 use Rattle.target.specs.declared.Target.{Target}
-use Rattle.target_run.specs.Talk.{talk}
+use Rattle.target_line.specs.Talk.{talk}
 
 -- how a call ends, and after how many transport calls
 pub record Ends (p : Played) (e : Ending) (count : ℕ) : Type 0 where

@@ -1,5 +1,5 @@
 -- A call succeeded exactly if its result number is 0. Serves the proofs only.
-use mathlib.Core.Bool.{true, false}
+use mathlib.Core.Bool.{false}
 use mathlib.Core.Path.{_≡_, refl}
 use lib.Dec.{eqb}
 use Rattle.wire.specs.Wire.{Ending, ended, spent, succeeds}
@@ -18,7 +18,6 @@ failed-number E.NoTarget = refl
 failed-number E.Internal = refl
 failed-number E.Range = refl
 failed-number E.Align = refl
-failed-number E.NoSession = refl
 failed-number E.TableEnd = refl
 
 pub number-tells : (e : Ending) → eqb (endingOf e .number) 0 ≡ succeeds e

@@ -4,7 +4,7 @@ use Prim.Native.Nat.{ℕ, zero, suc}
 use mathlib.Core.List.{List, [], _∷_}
 use Rattle.wire.specs.Wire.{Wire, done, ask, tell}
 use Rattle.wire.specs.declared.Answer.{Answer}
-use Rattle.target.specs.Line.{Heard, line}
+use Rattle.target.specs.Line.{line}
 use Rattle.target.specs.declared.Target.{Target}
 use Rattle.target.specs.declared.Act.{Act}
 use Rattle.target.specs.declared.Act.the-variants.{Deliver}

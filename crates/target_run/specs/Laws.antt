@@ -1,4 +1,0 @@
-pub mod Talk
-pub mod Comes
-pub mod Turns
-pub mod Over

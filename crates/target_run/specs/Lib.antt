@@ -1,3 +1,0 @@
-pub mod Talk
-pub mod Over
-pub mod Laws
