@@ -1,9 +1,8 @@
 // The request of a script: from the number of a call and the bytes behind it to the call and what it is lent.
 ghost use mathlib.Core.Path.{_≡_};
-ghost use lib.ListN.{length};
-ghost use Rattle.script_request.specs.declared.Buffer.the-variants as B;
+ghost use Prim.Native.Nat.{_≤_};
 ghost use Rattle.script_request.specs.BigEndian.{byte as Number·byte, half as Number·half, word as Number·word};
-ghost use Rattle.script_request.specs.Request.{fixed as Request·fixed, wordsFollow, bytesFollow, functionOf, connectRequest, memoryRequest, runRequest, coreRequest, functionRequest, fpbRequest, nrfRequest, requestOf};
+ghost use Rattle.script_request.specs.Request.{fixed as Request·fixed, plain, wordsFollow, bytesFollow, functionOf, readWords, requestOf};
 use call_connect::ConnectCall;
 use call_core::CoreCall;
 use call_core::Function;
@@ -58,141 +57,66 @@ pub fn word(a: &[u8], i: usize) -> u32
         + (byte(a, i + 3) as u32)
 }
 
-// Arguments of exactly `size` bytes, of which there are n.
-fn fixed(size: usize, n: usize, c: EngineCall, b: Buffer) -> Request
-    ensures { λ r. ⌜ r ≡ Request·fixed size n c b ⌝ }
+// Arguments of exactly `size` bytes.
+fn fixed(a: &[u8], size: usize, c: EngineCall, b: Buffer) -> Request
+    ensures { λ r. ⌜ r ≡ Request·fixed (now (a .entry)) size c b ⌝ }
 {
-    if n == size {
+    if a.len() == size {
         return Request::Asked(c, b);
     }
     Request::Malformed
 }
 
-fn words_follow(size: u8, n: usize, c: EngineCall) -> Request
-    ensures { λ r. ⌜ r ≡ wordsFollow size n c ⌝ }
+fn words_follow(a: &[u8], size: u8, c: EngineCall) -> Request
+    ensures { λ r. ⌜ r ≡ wordsFollow (now (a .entry)) size c ⌝ }
 {
-    if n < (size as usize) {
+    if a.len() < (size as usize) {
         return Request::Malformed;
     }
-    if n % 4 == 0 {
+    if a.len() % 4 == 0 {
         return Request::Asked(c, Buffer::GivenWords(size));
     }
     Request::Malformed
 }
 
-fn bytes_follow(n: usize, c: EngineCall) -> Request
-    ensures { λ r. ⌜ r ≡ bytesFollow n c ⌝ }
+fn bytes_follow(a: &[u8], c: EngineCall) -> Request
+    ensures { λ r. ⌜ r ≡ bytesFollow (now (a .entry)) c ⌝ }
 {
-    if n < 4 {
+    if a.len() < 4 {
         return Request::Malformed;
     }
     Request::Asked(c, Buffer::GivenBytes)
 }
 
 // Calls of each kind that are lent nothing.
-fn connect(size: usize, n: usize, c: ConnectCall) -> Request
-    ensures { λ r. ⌜ r ≡ Request·fixed size n (EngineCall.Connect c) B.Nothing ⌝ }
+fn connect(a: &[u8], size: usize, c: ConnectCall) -> Request
+    ensures { λ r. ⌜ r ≡ plain (now (a .entry)) size (EngineCall.Connect c) ⌝ }
 {
-    fixed(size, n, EngineCall::Connect(c), Buffer::Nothing)
+    fixed(a, size, EngineCall::Connect(c), Buffer::Nothing)
 }
 
-fn memory(size: usize, n: usize, c: MemoryCall) -> Request
-    ensures { λ r. ⌜ r ≡ Request·fixed size n (EngineCall.Memory c) B.Nothing ⌝ }
+fn memory(a: &[u8], size: usize, c: MemoryCall) -> Request
+    ensures { λ r. ⌜ r ≡ plain (now (a .entry)) size (EngineCall.Memory c) ⌝ }
 {
-    fixed(size, n, EngineCall::Memory(c), Buffer::Nothing)
+    fixed(a, size, EngineCall::Memory(c), Buffer::Nothing)
 }
 
-fn core(size: usize, n: usize, c: CoreCall) -> Request
-    ensures { λ r. ⌜ r ≡ Request·fixed size n (EngineCall.Core c) B.Nothing ⌝ }
+fn core(a: &[u8], size: usize, c: CoreCall) -> Request
+    ensures { λ r. ⌜ r ≡ plain (now (a .entry)) size (EngineCall.Core c) ⌝ }
 {
-    fixed(size, n, EngineCall::Core(c), Buffer::Nothing)
+    fixed(a, size, EngineCall::Core(c), Buffer::Nothing)
 }
 
-fn fpb(n: usize, c: FpbCall) -> Request
-    ensures { λ r. ⌜ r ≡ Request·fixed 4 n (EngineCall.Fpb c) B.Nothing ⌝ }
+fn fpb(a: &[u8], c: FpbCall) -> Request
+    ensures { λ r. ⌜ r ≡ plain (now (a .entry)) 4 (EngineCall.Fpb c) ⌝ }
 {
-    fixed(4, n, EngineCall::Fpb(c), Buffer::Nothing)
+    fixed(a, 4, EngineCall::Fpb(c), Buffer::Nothing)
 }
 
-fn nrf(size: usize, n: usize, c: NrfCall) -> Request
-    ensures { λ r. ⌜ r ≡ Request·fixed size n (EngineCall.Nrf c) B.Nothing ⌝ }
+fn nrf(a: &[u8], size: usize, c: NrfCall) -> Request
+    ensures { λ r. ⌜ r ≡ plain (now (a .entry)) size (EngineCall.Nrf c) ⌝ }
 {
-    fixed(size, n, EngineCall::Nrf(c), Buffer::Nothing)
-}
-
-// Calls 1 to 5.
-fn connect_request(number: u8, n: usize, w: u32) -> Request
-    ensures { λ r. ⌜ r ≡ connectRequest number n w ⌝ }
-{
-    match number {
-        1 => connect(4, n, ConnectCall::ConnectMultidrop(w)),
-        2 => connect(0, n, ConnectCall::ProbeSwd),
-        3 => connect(0, n, ConnectCall::ConnectSwd),
-        4 => connect(4, n, ConnectCall::ResetPulse(w)),
-        5 => connect(4, n, ConnectCall::Reselect(w)),
-        _ => Request::Malformed,
-    }
-}
-
-// Calls 6 to 10.
-fn memory_request(number: u8, a: &[u8]) -> Request
-    ensures { λ r. ⌜ r ≡ memoryRequest number (now (a .entry)) ⌝ }
-{
-    let n = a.len();
-    match number {
-        6 => memory(1, n, MemoryCall::SetApsel(byte(a, 0))),
-        7 => memory(1, n, MemoryCall::ApRegRead(byte(a, 0))),
-        8 => memory(5, n, MemoryCall::ApRegWrite(byte(a, 0), word(a, 1))),
-        9 => memory(4, n, MemoryCall::ReadWord(word(a, 0))),
-        10 => memory(8, n, MemoryCall::WriteWord(word(a, 0), word(a, 4))),
-        _ => Request::Malformed,
-    }
-}
-
-// Calls 11 to 14.
-fn run_request(number: u8, n: usize, addr: u32, count: u16) -> Request
-    ensures { λ r. ⌜ r ≡ runRequest number n addr count ⌝ }
-{
-    match number {
-        11 => {
-            if 8192 < count {
-                return Request::Malformed;
-            }
-            fixed(
-                6,
-                n,
-                EngineCall::Memory(MemoryCall::ReadWords(addr)),
-                Buffer::Words(count),
-            )
-        }
-        12 => words_follow(4, n, EngineCall::Memory(MemoryCall::WriteWords(addr))),
-        13 => fixed(
-            6,
-            n,
-            EngineCall::Memory(MemoryCall::ReadMem(addr)),
-            Buffer::Bytes(count),
-        ),
-        14 => bytes_follow(n, EngineCall::Memory(MemoryCall::WriteMem(addr))),
-        _ => Request::Malformed,
-    }
-}
-
-// Calls 15 to 22.
-fn core_request(number: u8, a: &[u8]) -> Request
-    ensures { λ r. ⌜ r ≡ coreRequest number (now (a .entry)) ⌝ }
-{
-    let n = a.len();
-    match number {
-        15 => core(0, n, CoreCall::DebugEnable),
-        16 => core(0, n, CoreCall::Halt),
-        17 => core(0, n, CoreCall::Resume),
-        18 => core(0, n, CoreCall::Step),
-        19 => core(0, n, CoreCall::IsHalted),
-        20 => core(1, n, CoreCall::ReadCoreReg(byte(a, 0))),
-        21 => core(5, n, CoreCall::WriteCoreReg(byte(a, 0), word(a, 1))),
-        22 => core(2, n, CoreCall::RomFuncLookup(byte(a, 0), byte(a, 1))),
-        _ => Request::Malformed,
-    }
+    fixed(a, size, EngineCall::Nrf(c), Buffer::Nothing)
 }
 
 // The function of calls 23 and 25.
@@ -210,101 +134,155 @@ fn function_at(a: &[u8]) -> Function
     }
 }
 
-// Calls 23 to 25.
-fn function_request(number: u8, a: &[u8]) -> Request
-    ensures { λ r. ⌜ r ≡ functionRequest number (now (a .entry)) ⌝ }
+// Call 11.
+fn read_words(a: &[u8], addr: u32, count: u16) -> Request
+    ensures { λ r. ⌜ r ≡ readWords (now (a .entry)) addr count ⌝ }
 {
-    let n = a.len();
+    if 8192 < count {
+        return Request::Malformed;
+    }
+    let c = EngineCall::Memory(MemoryCall::ReadWords(addr));
+    fixed(a, 6, c, Buffer::Words(count))
+}
+
+// The request of a call's number and the bytes behind it: calls 1 to 5, or a later group's.
+pub fn request_of(number: u8, a: &[u8]) -> Request
+    ensures { λ r. ⌜ r ≡ requestOf number (now (a .entry)) ⌝ }
+{
     match number {
+        0 => Request::Malformed,
+        1 => connect(a, 4, ConnectCall::ConnectMultidrop(word(a, 0))),
+        2 => connect(a, 0, ConnectCall::ProbeSwd),
+        3 => connect(a, 0, ConnectCall::ConnectSwd),
+        4 => connect(a, 4, ConnectCall::ResetPulse(word(a, 0))),
+        5 => connect(a, 4, ConnectCall::Reselect(word(a, 0))),
+        _ => ap_request(number, a),
+    }
+}
+
+// Calls 6 to 8, or a later group's.
+fn ap_request(number: u8, a: &[u8]) -> Request
+    requires { ⌜ 6 ≤ number ⌝ }
+    ensures { λ r. ⌜ r ≡ requestOf number (now (a .entry)) ⌝ }
+{
+    match number {
+        6 => memory(a, 1, MemoryCall::SetApsel(byte(a, 0))),
+        7 => memory(a, 1, MemoryCall::ApRegRead(byte(a, 0))),
+        8 => memory(a, 5, MemoryCall::ApRegWrite(byte(a, 0), word(a, 1))),
+        _ => memory_request(number, a),
+    }
+}
+
+// Calls 9 to 14, or a later group's.
+fn memory_request(number: u8, a: &[u8]) -> Request
+    requires { ⌜ 9 ≤ number ⌝ }
+    ensures { λ r. ⌜ r ≡ requestOf number (now (a .entry)) ⌝ }
+{
+    match number {
+        9 => memory(a, 4, MemoryCall::ReadWord(word(a, 0))),
+        10 => memory(a, 8, MemoryCall::WriteWord(word(a, 0), word(a, 4))),
+        11 => read_words(a, word(a, 0), half(a, 4)),
+        12 => words_follow(a, 4, EngineCall::Memory(MemoryCall::WriteWords(word(a, 0)))),
+        13 => fixed(
+            a,
+            6,
+            EngineCall::Memory(MemoryCall::ReadMem(word(a, 0))),
+            Buffer::Bytes(half(a, 4)),
+        ),
+        14 => bytes_follow(a, EngineCall::Memory(MemoryCall::WriteMem(word(a, 0)))),
+        _ => core_request(number, a),
+    }
+}
+
+// Calls 15 to 21, or a later group's.
+fn core_request(number: u8, a: &[u8]) -> Request
+    requires { ⌜ 15 ≤ number ⌝ }
+    ensures { λ r. ⌜ r ≡ requestOf number (now (a .entry)) ⌝ }
+{
+    match number {
+        15 => core(a, 0, CoreCall::DebugEnable),
+        16 => core(a, 0, CoreCall::Halt),
+        17 => core(a, 0, CoreCall::Resume),
+        18 => core(a, 0, CoreCall::Step),
+        19 => core(a, 0, CoreCall::IsHalted),
+        20 => core(a, 1, CoreCall::ReadCoreReg(byte(a, 0))),
+        21 => core(a, 5, CoreCall::WriteCoreReg(byte(a, 0), word(a, 1))),
+        _ => function_request(number, a),
+    }
+}
+
+// Calls 22 to 25, or a later group's.
+fn function_request(number: u8, a: &[u8]) -> Request
+    requires { ⌜ 22 ≤ number ⌝ }
+    ensures { λ r. ⌜ r ≡ requestOf number (now (a .entry)) ⌝ }
+{
+    match number {
+        22 => core(a, 2, CoreCall::RomFuncLookup(byte(a, 0), byte(a, 1))),
         23 => fixed(
+            a,
             28,
-            n,
             EngineCall::Core(CoreCall::StartFunction(function_at(a))),
             Buffer::Frame,
         ),
         24 => fixed(
+            a,
             36,
-            n,
             EngineCall::Core(CoreCall::FinishFunction(word(a, 32))),
             Buffer::GivenWords(0),
         ),
-        25 => core(32, n, CoreCall::CallFunction(function_at(a), word(a, 28))),
-        _ => Request::Malformed,
+        25 => core(a, 32, CoreCall::CallFunction(function_at(a), word(a, 28))),
+        _ => fpb_request(number, a),
     }
 }
 
-// Calls 26 to 28.
-fn fpb_request(number: u8, n: usize, addr: u32) -> Request
-    ensures { λ r. ⌜ r ≡ fpbRequest number n addr ⌝ }
-{
-    match number {
-        26 => fpb(n, FpbCall::HwBreakpointSet(addr)),
-        27 => fpb(n, FpbCall::HwBreakpointClear(addr)),
-        28 => fpb(n, FpbCall::HwBreakpointAt(addr)),
-        _ => Request::Malformed,
-    }
-}
-
-// Calls 29 to 35.
-fn nrf_request(number: u8, n: usize, w: u32, polls: u32) -> Request
-    ensures { λ r. ⌜ r ≡ nrfRequest number n w polls ⌝ }
-{
-    match number {
-        29 => nrf(0, n, NrfCall::Nrf52ApprotectStatus),
-        30 => nrf(4, n, NrfCall::Nrf52EraseAll(w)),
-        31 => nrf(
-            8,
-            n,
-            NrfCall::Nrf52ErasePage {
-                addr: w,
-                polls: polls,
-            },
-        ),
-        32 => words_follow(
-            8,
-            n,
-            EngineCall::Nrf(NrfCall::Nrf52Program {
-                addr: w,
-                polls: polls,
-            }),
-        ),
-        33 => nrf(0, n, NrfCall::Nrf54ApprotectStatus),
-        34 => nrf(4, n, NrfCall::Nrf54EraseAll(w)),
-        35 => words_follow(
-            8,
-            n,
-            EngineCall::Nrf(NrfCall::Nrf54Program {
-                addr: w,
-                polls: polls,
-            }),
-        ),
-        _ => Request::Malformed,
-    }
-}
-
-// The request of a call's number and the bytes behind it.
-pub fn request_of(number: u8, a: &[u8]) -> Request
+// Calls 26 to 28, or a later group's.
+fn fpb_request(number: u8, a: &[u8]) -> Request
+    requires { ⌜ 26 ≤ number ⌝ }
     ensures { λ r. ⌜ r ≡ requestOf number (now (a .entry)) ⌝ }
 {
-    let n = a.len();
+    match number {
+        26 => fpb(a, FpbCall::HwBreakpointSet(word(a, 0))),
+        27 => fpb(a, FpbCall::HwBreakpointClear(word(a, 0))),
+        28 => fpb(a, FpbCall::HwBreakpointAt(word(a, 0))),
+        _ => nrf52_request(number, a),
+    }
+}
+
+// Calls 29 to 32, or a later group's; w and polls are the first two words.
+fn nrf52_request(number: u8, a: &[u8]) -> Request
+    requires { ⌜ 29 ≤ number ⌝ }
+    ensures { λ r. ⌜ r ≡ requestOf number (now (a .entry)) ⌝ }
+{
     let w = word(a, 0);
-    if number <= 5 {
-        return connect_request(number, n, w);
+    let polls = word(a, 4);
+    match number {
+        29 => nrf(a, 0, NrfCall::Nrf52ApprotectStatus),
+        30 => nrf(a, 4, NrfCall::Nrf52EraseAll(w)),
+        31 => nrf(a, 8, NrfCall::Nrf52ErasePage { addr: w, polls }),
+        32 => words_follow(
+            a,
+            8,
+            EngineCall::Nrf(NrfCall::Nrf52Program { addr: w, polls }),
+        ),
+        _ => nrf54_request(number, a),
     }
-    if number <= 10 {
-        return memory_request(number, a);
+}
+
+// Calls 33 to 35.
+fn nrf54_request(number: u8, a: &[u8]) -> Request
+    requires { ⌜ 33 ≤ number ⌝ }
+    ensures { λ r. ⌜ r ≡ requestOf number (now (a .entry)) ⌝ }
+{
+    let w = word(a, 0);
+    let polls = word(a, 4);
+    match number {
+        33 => nrf(a, 0, NrfCall::Nrf54ApprotectStatus),
+        34 => nrf(a, 4, NrfCall::Nrf54EraseAll(w)),
+        35 => words_follow(
+            a,
+            8,
+            EngineCall::Nrf(NrfCall::Nrf54Program { addr: w, polls }),
+        ),
+        _ => Request::Malformed,
     }
-    if number <= 14 {
-        return run_request(number, n, w, half(a, 4));
-    }
-    if number <= 22 {
-        return core_request(number, a);
-    }
-    if number <= 25 {
-        return function_request(number, a);
-    }
-    if number <= 28 {
-        return fpb_request(number, n, w);
-    }
-    nrf_request(number, n, w, word(a, 4))
 }
