@@ -4,14 +4,14 @@
 
 // Transport calls and their answers, what the engine remembers, and one transfer with its WAIT retries.
 ghost use mathlib.Core.Path.{_≡_};
-ghost use Prim.Native.Nat.{_%_};
+ghost use Prim.Native.Nat.{_%_, _≤_};
 ghost use Rattle.wire.specs.declared.Outcome.{Outcome};
 ghost use Rattle.wire.specs.declared.Went.the-variants.{Again};
 ghost use Rattle.wire.specs.Bytes.{patternNo, patternAt, patternBytes, padded};
 ghost use Rattle.wire.specs.Wire.{Wire, Memory, follow};
 ghost use Rattle.wire.specs.Transfer.{raw, rawOutcome};
 ghost use Rattle.wire.specs.Count.{Counted};
-ghost use Rattle.wire.specs.Laws.Flight.{Sized, Trying, transferOf, transferTree, begun, begunRaw, aborts, waits, answered, Goes};
+ghost use Rattle.wire.specs.Laws.Flight.{errorOf, outcomeOf, Sized, Trying, transferOf, transferTree, begun, begunRaw, aborts, waits, answered, Goes};
 
 // What the engine remembers of the target. SELECT 0xFFFFFFFF means unknown.
 pub struct Remembered {
@@ -147,6 +147,88 @@ pub fn pattern_bytes(p: Pattern) -> [u8; 16]
     }
 }
 
+// A byte as a word: the lowest eight bits are all of it.
+fn wide(x: u8) -> u32
+    ensures { λ r. ⌜ (r ≡ x) × (r % 256 ≡ x) ⌝ }
+{
+    x as u32
+}
+
+// An error or an outcome as two numbers.
+pub struct Told {
+    pub number: u32,
+    pub value: u32,
+}
+
+fn error_no(number: u32) -> Told
+    ensures { λ r. ⌜ r ≡ record { number = number; value = 0 } ⌝ }
+{
+    Told {
+        number: number,
+        value: 0,
+    }
+}
+
+pub fn error_told(e: ArmError) -> Told
+    ensures { λ r. ⌜ (errorOf (r .number) (r .value) ≡ e) × (r .number ≤ 9) ⌝ }
+{
+    match e {
+        ArmError::Transfer(ack) => Told {
+            number: 0,
+            value: wide(ack),
+        },
+        ArmError::Wait => error_no(1),
+        ArmError::NotSupported => error_no(2),
+        ArmError::PowerUpTimeout => error_no(3),
+        ArmError::CoreTimeout => error_no(4),
+        ArmError::NoTarget => error_no(5),
+        ArmError::Internal => error_no(6),
+        ArmError::Range => error_no(7),
+        ArmError::Align => error_no(8),
+        ArmError::TableEnd => error_no(9),
+    }
+}
+
+// The error that two numbers stand for.
+pub fn error_at(number: u32, value: u32) -> ArmError
+    ensures { λ r. ⌜ r ≡ errorOf number value ⌝ }
+{
+    match number {
+        0 => ArmError::Transfer((value % 256) as u8),
+        1 => ArmError::Wait,
+        2 => ArmError::NotSupported,
+        3 => ArmError::PowerUpTimeout,
+        4 => ArmError::CoreTimeout,
+        5 => ArmError::NoTarget,
+        6 => ArmError::Internal,
+        7 => ArmError::Range,
+        8 => ArmError::Align,
+        _ => ArmError::TableEnd,
+    }
+}
+
+pub fn outcome_told(o: Outcome) -> Told
+    ensures { λ r. ⌜ outcomeOf (r .number) (r .value) ≡ o ⌝ }
+{
+    match o {
+        Outcome::Value(v) => Told {
+            number: 10,
+            value: v,
+        },
+        Outcome::Failed(e) => error_told(e),
+    }
+}
+
+// The outcome that two numbers stand for.
+pub fn outcome_at(number: u32, value: u32) -> Outcome
+    ensures { λ r. ⌜ r ≡ outcomeOf number value ⌝ }
+{
+    if number == 10 {
+        return Outcome::Value(value);
+    }
+    Outcome::Failed(error_at(number, value))
+}
+
 // The words of a transport call in flight, which its owner lends and which are updated in place.
 // MODE: a try of a transfer, the ABORT after it, whose answer is ignored, or a call that is no transfer.
 const MODE: usize = 0;
@@ -193,13 +275,6 @@ const MOST: u32 = 65;
 pub enum Went {
     Again,
     Ended(Outcome),
-}
-
-// A byte as a word: the lowest eight bits are all of it.
-fn wide(x: u8) -> u32
-    ensures { λ r. ⌜ (r ≡ x) × (r % 256 ≡ x) ⌝ }
-{
-    x as u32
 }
 
 // A transfer: WAIT repeats it, at most 64 times.
@@ -277,13 +352,7 @@ fn abort(t: &mut [u32; 7], error: u32, ack: u32) -> Went
 fn error_of(t: &[u32; 7]) -> ArmError
     ensures { λ r. ⌜ r ≡ transferOf (now (t .entry)) .error ⌝ }
 {
-    let e = t[ERROR];
-    let ack = t[ACK];
-    match e {
-        0 => ArmError::Transfer((ack % 256) as u8),
-        1 => ArmError::NotSupported,
-        _ => ArmError::Internal,
-    }
+    error_at(t[ERROR], t[ACK])
 }
 
 // WAIT: the same call once more, or no more. Whatever count it finds, it leaves none above 65.
@@ -310,8 +379,8 @@ fn tried(t: &mut [u32; 7], a: Answer) -> Went
             }
             abort(t, 0, wide(ack))
         }
-        Answer::NotSupported => abort(t, 1, 0),
-        Answer::Other => abort(t, 2, 0),
+        Answer::NotSupported => abort(t, 2, 0),
+        Answer::Other => abort(t, 6, 0),
     }
 }
 

@@ -14,5 +14,5 @@ tried-spec =
     (λ c h. record { tree = λ m k. simp (c .before .a .given .1); sized = h .0; counted = tt })
     (λ c h. fails-with 0 _ (c .before .before .before .before .before .before .before .args .t .now) (c .abort .ensures) (h .0) (λ m k. simp (c .before .before .before .before .before .a2 .given .1)
     (simp (ne-eqb _ _ (c .before .before .before .if1 .left)) (simp (c .before .wide .ensures .1)))))
-    (λ c h. fails-with 1 0 (c .before .before .before .before .args .t .now) (c .abort2 .ensures) (h .0) (λ m k. simp (c .before .before .enum-told .given .1)))
-    (λ c h. fails-with 2 0 (c .before .before .before .before .args .t .now) (c .abort3 .ensures) (h .0) (λ m k. simp (c .before .before .enum-told2 .given .1))))
+    (λ c h. fails-with 2 0 (c .before .before .before .before .args .t .now) (c .abort2 .ensures) (h .0) (λ m k. simp (c .before .before .enum-told .given .1)))
+    (λ c h. fails-with 6 0 (c .before .before .before .before .args .t .now) (c .abort3 .ensures) (h .0) (λ m k. simp (c .before .before .enum-told2 .given .1))))
