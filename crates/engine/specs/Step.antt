@@ -6,18 +6,16 @@ use mathlib.Core.Path.{_≡_}
 use Rattle.wire.specs.Bytes.{handed, padded}
 use Rattle.wire.specs.Wire.{Wire, Memory, memoryOf, done, ask, tell, follow}
 use Rattle.wire.specs.Count.{Counted}
-use Rattle.wire.specs.declared.Transfer.{Transfer}
 use Rattle.wire.specs.declared.Answer.{Answer}
 use Rattle.wire.specs.declared.Outcome.{Outcome}
 use Rattle.wire_numbers.specs.Results.{resultOf}
 use Rattle.wire_numbers.specs.Numbers.{numbersOf}
+use Rattle.wire_memap.specs.Laws.Doing.{rememberedOf}
 use Rattle.engine_calls.specs.Calls.{pick}
-use Rattle.engine.specs.Laws.State.{stateTree}
+use Rattle.engine.specs.Laws.State.{Status, Running, Ended, statusOf, ownOf, stateTree}
 use Rattle.engine.specs.declared.NextStep.{NextStep}
 use Rattle.engine.specs.declared.NextStep.the-variants as N
 use Rattle.engine.specs.declared.State.{State}
-use Rattle.engine.specs.declared.Status.{Status}
-use Rattle.engine.specs.declared.Status.the-variants.{Running, Ended}
 use Rattle.engine.specs.declared.StepAnswer.{StepAnswer}
 
 -- what comes next in a tree: a transport call, or how the call ended
@@ -39,7 +37,7 @@ memoryIn (ask m c f) = m
 memoryIn (tell m c w) = m
 
 -- The transport call in flight holds a count of at most 65 (02, e); of a call that has ended nothing is in flight.
-abbrev pub CountedIn : Status → Transfer → Type 0
+abbrev pub CountedIn : Status → List ℕ → Type 0
 CountedIn Running t = Counted t
 CountedIn (Ended o) t = Unit {0}
 
@@ -48,18 +46,18 @@ CountedIn (Ended o) t = Unit {0}
 pub record Steps (w : Wire) (a : StepAnswer) (ws b : List ℕ) : Type 0 where
   pub next : a .next ≡ nextOf w
   pub bytes : a .bytes ≡ padded (bytesOf w)
-  pub memory : memoryOf (a .state .remembered) ws b ≡ memoryIn w
+  pub memory : memoryOf (rememberedOf (a .state .op)) ws b ≡ memoryIn w
   pub tree : w ≡ stateTree (a .state) ws b
-  pub counted : CountedIn (a .state .status) (a .state .started .launched .transfer)
+  pub counted : CountedIn (statusOf (a .state .call)) (a .state .transfer)
 
 -- The same over a row and the caller's words, of which `own` says which one the call runs over; the other is unchanged.
 pub record Lent (own : Bool) (w : Wire) (a : StepAnswer) (row₀ words₀ row words buf : List ℕ) : Type 0 where
   pub steps : Steps w a (pick own words row) buf
   pub other : pick own row words ≡ pick own row₀ words₀
-  pub whose : a .state .own ≡ own
+  pub whose : ownOf (a .state .call) ≡ own
 
 -- A step from the state s. The tree of a call that has ended goes on as itself (`follow`): the same ending, no transport call, words
 -- and buffer as they were; and the state stays.
 pub record Stepped (s : State) (a : Answer) (x : StepAnswer) (row₀ words₀ buf₀ row words buf : List ℕ) : Type 0 where
-  pub lent : Lent (s .own) (follow (stateTree s (pick (s .own) words₀ row₀) buf₀) a) x row₀ words₀ row words buf
-  pub stays : (o : Outcome) → s .status ≡ Ended o → x .state ≡ s
+  pub lent : Lent (ownOf (s .call)) (follow (stateTree s (pick (ownOf (s .call)) words₀ row₀) buf₀) a) x row₀ words₀ row words buf
+  pub stays : (o : Outcome) → statusOf (s .call) ≡ Ended o → x .state ≡ s

@@ -1,45 +1,29 @@
 // The engine's calls, step by step: a step takes the last answer and what the caller lends, and answers with the next
 // transport call or the call's ending.
 ghost use mathlib.Core.Path.{_≡_};
-ghost use mathlib.Core.List.{List};
-ghost use Prim.Native.Nat.{ℕ};
-ghost use lib.ListN.{length};
-ghost use Rattle.wire.specs.Wire.{memoryOf, done, follow};
-ghost use Rattle.wire.specs.Count.{Counted};
-ghost use Rattle.wire_memap.specs.Laws.Flight.{startedTree};
 ghost use Rattle.call.specs.Change.{fresh};
-ghost use Rattle.call.specs.Job.{exec};
-ghost use Rattle.call.specs.Laws.Asks.{thenOf, nextJob};
-ghost use Rattle.engine_calls.specs.Calls.{jobOf, lent, callTree};
-ghost use Rattle.engine_calls.specs.Laws.After.{callAfter, asksJob};
-ghost use Rattle.engine.specs.Laws.State.{flightTree};
-ghost use Rattle.engine.specs.Step.{Steps, Lent, Stepped};
+ghost use Rattle.engine_calls.specs.Calls.{lent, callTree};
+ghost use Rattle.engine.specs.Step.{Lent, Stepped};
+ghost use Rattle.engine.specs.Laws.Answer.{Answers};
+ghost use Rattle.engine.specs.Laws.State.{atOf};
+ghost use Rattle.engine.specs.Laws.Step.{storedAt, EndsIn, BeginsNext, Changes, AsksIn, StepsIn, StartedIn, SteppedIn};
+use call::Asks;
+use call::At;
+use call::Change;
 use call::Next;
-use engine_calls::Asks;
-use engine_calls::At;
 use engine_calls::EngineCall;
 use wire::Answer;
 use wire::Outcome;
 use wire::Remembered;
-use wire_memap::Op;
-use wire_memap::Started;
 use wire_memap::Went;
 use wire_numbers::CallEnding;
 use wire_numbers::TransportCall;
 
-// Whether a call is under way, or how it ended.
-pub enum Status {
-    Running,
-    Ended(Outcome),
-}
-
-// A call and what is remembered. `at` and `started` are what is in flight while it runs; `own`: it runs over the caller's own words.
+// A call, under way or ended, and what is remembered: the words of its transport call, of its operation and its own.
 pub struct State {
-    pub remembered: Remembered,
-    pub status: Status,
-    pub at: At,
-    pub started: Started,
-    pub own: bool,
+    pub transfer: [u32; 7],
+    pub op: [u32; 12],
+    pub call: [u32; 10],
 }
 
 // The transport call to make next, or how the call ended.
@@ -55,6 +39,29 @@ pub struct StepAnswer {
     pub bytes: [u8; 16],
 }
 
+// The words of a call. STEP and the five after it: which operation is in flight, and what the call goes on with.
+const STEP: usize = 0;
+
+const A: usize = 1;
+
+const B: usize = 2;
+
+const C: usize = 3;
+
+const D: usize = 4;
+
+const E: usize = 5;
+
+// 0: the call is under way; else it has ended with the outcome that the next two words tell.
+const STATUS: usize = 6;
+
+const NUMBER: usize = 7;
+
+const VALUE: usize = 8;
+
+// 1: it runs over the caller's own words.
+const OWN: usize = 9;
+
 // The engine before its first call: nothing is known of the target.
 pub fn new() -> Remembered
     ensures { λ r. ⌜ r ≡ fresh ⌝ }
@@ -62,110 +69,182 @@ pub fn new() -> Remembered
     call::new()
 }
 
-// The transport call of a state is due.
-fn go(r: Remembered, p: At, s: Started, own: bool) -> StepAnswer
-    requires { ⌜ Counted (s .launched .transfer) ⌝ }
-    ensures { λ x. ⌜ ((ws b : List ℕ) → Steps (startedTree s (thenOf (callAfter p)) (memoryOf r ws b)) x ws b) × (x .state .own ≡ own) ⌝ }
+fn at_of(c: &[u32; 10]) -> At
+    ensures { λ r. ⌜ r ≡ atOf (now (c .entry)) ⌝ }
 {
-    let c = wire::due(s.launched.transfer);
-    let n = wire_numbers::numbers_of(c);
-    let b = wire_numbers::bytes_of(c);
-    StepAnswer {
-        next: NextStep::Make(n),
-        state: State {
-            remembered: r,
-            status: Status::Running,
-            at: p,
-            started: s,
-            own: own,
-        },
-        bytes: b,
-    }
+    call::at_step(c[STEP], c[A], c[B], c[C], c[D], c[E])
 }
 
-// The call has ended, and its state says how. `started` stands for nothing.
-fn over(r: Remembered, p: At, o: Outcome, own: bool) -> StepAnswer
-    ensures { λ x. ⌜ ((ws b : List ℕ) → Steps (done (memoryOf r ws b) o) x ws b) × (x .state .own ≡ own) ⌝ }
+fn store_at(c: &mut [u32; 10], at: At)
+    ensures { λ _. ⌜ now (c .exit) ≡ storedAt at (now (c .entry)) ⌝ }
 {
-    let s = wire_memap::op_start(r, Op::DpRead { addr: 0 });
-    let e = wire_numbers::result_of(o);
-    StepAnswer {
-        next: NextStep::Finish(e),
-        state: State {
-            remembered: r,
-            status: Status::Ended(o),
-            at: p,
-            started: s,
-            own: own,
-        },
-        bytes: [0u8; 16],
-    }
+    c[STEP] = at.step;
+    c[A] = at.a;
+    c[B] = at.b;
+    c[C] = at.c;
+    c[D] = at.d;
+    c[E] = at.e;
+}
+
+// The call has ended.
+fn over(c: &mut [u32; 10], o: Outcome)
+    ensures { λ _. ⌜ EndsIn o (now (c .entry)) (now (c .exit)) ⌝ }
+{
+    let x = wire::outcome_told(o);
+    c[STATUS] = 1;
+    c[NUMBER] = x.number;
+    c[VALUE] = x.value;
 }
 
 // What is asked for is begun, or the call ends.
-fn begun(r: Remembered, p: At, n: Next, own: bool) -> StepAnswer
-    ensures { λ x. ⌜ ((ws b : List ℕ) → Steps (exec (nextJob n (callAfter p)) (memoryOf r ws b)) x ws b) × (x .state .own ≡ own) ⌝ }
+fn begun(t: &mut [u32; 7], m: &mut [u32; 12], c: &mut [u32; 10], n: Next)
+    ensures { λ _. ⌜ BeginsNext n (now (t .entry)) (now (m .entry)) (now (c .entry)) (now (t .exit)) (now (m .exit)) (now (c .exit)) ⌝ }
 {
     match n {
-        Next::Do(w) => go(r, p, wire_memap::op_start(r, w), own),
-        Next::End(o) => over(r, p, o, own),
+        Next::Do(w) => {
+            c[STATUS] = 0;
+            wire_memap::op_start(t, m, w)
+        }
+        Next::End(o) => over(c, o),
     }
 }
 
-// A change, and then what is asked for.
-fn asked(r: Remembered, a: Asks, own: bool, ws: &mut [u32], buf: &mut [u8]) -> StepAnswer
-    ensures { λ x. ⌜ Steps (exec (asksJob a) (memoryOf r (now (ws .entry)) (now (buf .entry)))) x (now (ws .exit)) (now (buf .exit)) × (x .state .own ≡ own) ⌝ }
+// A change of what is kept.
+fn change(m: &mut [u32; 12], x: Change, ws: &mut [u32], buf: &mut [u8])
+    ensures { λ _. ⌜ Changes x (now (m .entry)) (now (ws .entry)) (now (buf .entry)) (now (m .exit)) (now (ws .exit)) (now (buf .exit)) ⌝ }
 {
-    let c = a.change;
-    let p = a.at;
-    let n = a.next;
-    let r2 = call::make_change(c, r, ws, buf);
-    begun(r2, p, n, own)
+    let r = call::make_change(x, wire_memap::remembered(m), ws, buf);
+    wire_memap::remember(m, r);
 }
 
-// The start of a call over the words ws, where the caller has lent so many words. `own`: ws are these.
-fn start_over(
-    r: Remembered,
-    c: EngineCall,
-    own: bool,
-    words: usize,
+// A change, and then what is asked for.
+fn asked(
+    t: &mut [u32; 7],
+    m: &mut [u32; 12],
+    c: &mut [u32; 10],
+    a: Asks,
     ws: &mut [u32],
     buf: &mut [u8],
-) -> StepAnswer
-    ensures { λ x. ⌜ Steps (exec (jobOf c words (length (now (buf .entry)))) (memoryOf r (now (ws .entry)) (now (buf .entry)))) x (now (ws .exit)) (now (buf .exit)) × (x .state .own ≡ own) ⌝ }
+)
+    ensures { λ _. ⌜ AsksIn a (now (t .entry)) (now (m .entry)) (now (c .entry)) (now (ws .entry)) (now (buf .entry)) (now (t .exit)) (now (m .exit)) (now (c .exit)) (now (ws .exit)) (now (buf .exit)) ⌝ }
 {
-    let n = buf.len();
-    asked(r, engine_calls::call_start(c, words, n), own, ws, buf)
+    let x = a.change;
+    let at = a.at;
+    let n = a.next;
+    store_at(c, at);
+    change(m, x, ws, buf);
+    begun(t, m, c, n);
 }
 
 // One step of a call under way, over the words of its runs.
-fn step_over(s: State, a: Answer, ws: &mut [u32], buf: &mut [u8]) -> StepAnswer
-    ensures { λ x. ⌜ Steps (follow (flightTree s (now (ws .entry)) (now (buf .entry))) a) x (now (ws .exit)) (now (buf .exit)) × (x .state .own ≡ s .own) ⌝ }
+fn step_over(
+    t: &mut [u32; 7],
+    m: &mut [u32; 12],
+    c: &mut [u32; 10],
+    a: Answer,
+    ws: &mut [u32],
+    buf: &mut [u8],
+)
+    ensures { λ _. ⌜ StepsIn a (now (t .entry)) (now (m .entry)) (now (c .entry)) (now (ws .entry)) (now (buf .entry)) (now (t .exit)) (now (m .exit)) (now (c .exit)) (now (ws .exit)) (now (buf .exit)) ⌝ }
 {
-    let r = s.remembered;
-    let p = s.at;
-    let st = s.started;
-    match wire_memap::op_step(r, st, a, ws) {
-        Went::Moving(r2, s2) => go(r2, p, s2, s.own),
-        Went::Finished(r2, o) => asked(r2, engine_calls::call_after(p, o), s.own, ws, buf),
+    match wire_memap::op_step(t, m, a, ws) {
+        Went::Moving => {}
+        Went::Finished(o) => {
+            let at = at_of(c);
+            asked(t, m, c, engine_calls::call_after(at, o), ws, buf)
+        }
+    }
+}
+
+// The start of a call in words that are lent, of which `m` has what is remembered.
+pub fn start_in(
+    t: &mut [u32; 7],
+    m: &mut [u32; 12],
+    c: &mut [u32; 10],
+    x: EngineCall,
+    row: &mut [u32; 64],
+    words: &mut [u32],
+    buf: &mut [u8],
+)
+    ensures { λ _. ⌜ StartedIn x (now (t .entry)) (now (m .entry)) (now (c .entry)) (now (row .entry)) (now (words .entry)) (now (buf .entry)) (now (t .exit)) (now (m .exit)) (now (c .exit)) (now (row .exit)) (now (words .exit)) (now (buf .exit)) ⌝ }
+{
+    let n = words.len();
+    let k = buf.len();
+    let a = engine_calls::call_start(x, n, k);
+    if engine_calls::owns(x) {
+        c[OWN] = 1;
+        asked(t, m, c, a, words, buf);
+        return;
+    }
+    c[OWN] = 0;
+    asked(t, m, c, a, row, buf);
+}
+
+// One step in words that are lent. A call that has ended stays as it is.
+pub fn step_in(
+    t: &mut [u32; 7],
+    m: &mut [u32; 12],
+    c: &mut [u32; 10],
+    a: Answer,
+    row: &mut [u32; 64],
+    words: &mut [u32],
+    buf: &mut [u8],
+)
+    ensures { λ _. ⌜ SteppedIn a (now (t .entry)) (now (m .entry)) (now (c .entry)) (now (row .entry)) (now (words .entry)) (now (buf .entry)) (now (t .exit)) (now (m .exit)) (now (c .exit)) (now (row .exit)) (now (words .exit)) (now (buf .exit)) ⌝ }
+{
+    if c[STATUS] == 0 {
+        if c[OWN] == 1 {
+            step_over(t, m, c, a, words, buf);
+            return;
+        }
+        step_over(t, m, c, a, row, buf);
+    }
+}
+
+// What the words of a state say: the transport call that is due, or the ending.
+fn answer(t: [u32; 7], m: [u32; 12], c: [u32; 10]) -> StepAnswer
+    ensures { λ x. ⌜ Answers t m c x ⌝ }
+{
+    let running = c[STATUS] == 0;
+    let number = c[NUMBER];
+    let value = c[VALUE];
+    let s = State {
+        transfer: t,
+        op: m,
+        call: c,
+    };
+    if running {
+        let x = wire::due(&t);
+        return StepAnswer {
+            next: NextStep::Make(wire_numbers::numbers_of(x)),
+            state: s,
+            bytes: wire_numbers::bytes_of(x),
+        };
+    }
+    let e = wire_numbers::result_of(wire::outcome_at(number, value));
+    StepAnswer {
+        next: NextStep::Finish(e),
+        state: s,
+        bytes: [0u8; 16],
     }
 }
 
 // The start of a call: its first transport call, or its ending where it makes none.
 pub fn start(
     r: Remembered,
-    c: EngineCall,
+    x: EngineCall,
     row: &mut [u32; 64],
     words: &mut [u32],
     buf: &mut [u8],
 ) -> StepAnswer
-    ensures { λ a. ⌜ Lent (lent c) (callTree c r (now (row .entry)) (now (words .entry)) (now (buf .entry))) a (now (row .entry)) (now (words .entry)) (now (row .exit)) (now (words .exit)) (now (buf .exit)) ⌝ }
+    ensures { λ a. ⌜ Lent (lent x) (callTree x r (now (row .entry)) (now (words .entry)) (now (buf .entry))) a (now (row .entry)) (now (words .entry)) (now (row .exit)) (now (words .exit)) (now (buf .exit)) ⌝ }
 {
-    let n = words.len();
-    if engine_calls::owns(c) {
-        return start_over(r, c, true, n, words, buf);
-    }
-    start_over(r, c, false, n, row, buf)
+    let mut t = [0u32; 7];
+    let mut m = [0u32; 12];
+    let mut c = [0u32; 10];
+    wire_memap::remember(&mut m, r);
+    start_in(&mut t, &mut m, &mut c, x, row, words, buf);
+    answer(t, m, c)
 }
 
 // One step: the last answer in, the next transport call or the ending out. A call that has ended answers its ending again, makes
@@ -179,21 +258,9 @@ pub fn step(
 ) -> StepAnswer
     ensures { λ x. ⌜ Stepped s a x (now (row .entry)) (now (words .entry)) (now (buf .entry)) (now (row .exit)) (now (words .exit)) (now (buf .exit)) ⌝ }
 {
-    let status = s.status;
-    match status {
-        Status::Ended(o) => {
-            let e = wire_numbers::result_of(o);
-            StepAnswer {
-                next: NextStep::Finish(e),
-                state: s,
-                bytes: [0u8; 16],
-            }
-        }
-        Status::Running => {
-            if s.own {
-                return step_over(s, a, words, buf);
-            }
-            step_over(s, a, row, buf)
-        }
-    }
+    let mut t = s.transfer;
+    let mut m = s.op;
+    let mut c = s.call;
+    step_in(&mut t, &mut m, &mut c, a, row, words, buf);
+    answer(t, m, c)
 }

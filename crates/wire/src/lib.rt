@@ -148,7 +148,7 @@ pub fn pattern_bytes(p: Pattern) -> [u8; 16]
 }
 
 // A byte as a word: the lowest eight bits are all of it.
-fn wide(x: u8) -> u32
+pub fn wide(x: u8) -> u32
     ensures { λ r. ⌜ (r ≡ x) × (r % 256 ≡ x) ⌝ }
 {
     x as u32

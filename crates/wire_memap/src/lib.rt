@@ -8,7 +8,7 @@ ghost use Prim.Native.Nat.{_-_, _<_, _≤_};
 ghost use lib.ListN.{set, getD};
 ghost use Rattle.wire.specs.Laws.Flight.{begun};
 ghost use Rattle.wire_memap.specs.Ports.{selectOf, a32};
-ghost use Rattle.wire_memap.specs.Laws.Doing.{rememberedOf, kindOf};
+ghost use Rattle.wire_memap.specs.Laws.Doing.{rememberedOf, kindOf, OpSized, Remembers};
 ghost use Rattle.wire_memap.specs.Words.{pull, push};
 ghost use Rattle.wire_memap.specs.Laws.Flight.{waiting, selectStands, Accessed, Fits, Begun, BegunAt, Goes};
 ghost use Rattle.wire_memap.specs.Laws.Flight.{ensuringTask, dataTree, tarAfter, valueTree, endedTree, stepTree};
@@ -384,5 +384,17 @@ pub fn op_start(t: &mut [u32; 7], m: &mut [u32; 12], op: Op)
         Op::ReadWords { addr, n, last } => task_start(t, m, READ_WORDS, addr, 0, n, last),
         Op::WriteWords { addr, n, last } => task_start(t, m, WRITE_WORDS, addr, 0, n, last),
         Op::Other(c) => raw_start(t, m, c),
+    }
+}
+
+// What is remembered becomes r.
+pub fn remember(m: &mut [u32; 12], r: Remembered)
+    ensures { λ _. ⌜ (OpSized (now (m .entry)) → Remembers r (now (m .exit))) ⌝ }
+{
+    m[SELECT] = r.select;
+    m[CSW] = 0;
+    m[APSEL] = wire::wide(r.apsel);
+    if r.csw {
+        m[CSW] = 1;
     }
 }

@@ -1,11 +1,11 @@
--- A change only changes the memory that the rest of the call finds (`asks-next`), and `begun` ensures the rest.
-use Rattle.engine_calls.specs.Laws.After.{asks-next}
+-- The place in the call is stored, the change made, and what is asked for begun.
+use Rattle.engine.specs.Laws.Step.{asks-in}
 use borrow.Author.Needs.{needs}
 use Rattle.engine.proofs.asked.Statement.{statement}
 use Rattle.engine.proofs.asked.Tie as tie
 
 pub asked-spec : {M : Type 1} → statement M
-asked-spec = tie.close (tie.spec
-    (λ c κs. search needs) (λ c κs. search needs) (λ c. search needs) (λ c. search needs)
-    (λ c. rw (asks-next (c .before .before .before .before .before .before .before .before .before .before .args .a) _ _ (c .before .before .before
-    .before .before .make-change .ensures)) (c .begun .ensures .0 _ _, c .begun .ensures .1)))
+asked-spec =
+    tie.close (tie.spec (λ c κs. search needs) (λ c κs. search needs) (λ c κs. search needs) (λ c. search needs) (λ c. search needs)
+    (λ c. let a = c .before .before .before .before .before .before .before .before .before .before .before .before .before .before .before .before .before .args in asks-in (a .a) (a .t .now) (a .m .now) (a .c .now) (a .ws .now) (a .buf .now) _ _ _ _ _ _ _
+    (c .before .before .before .before .before .before .before .before .before .before .before .before .store-at .ensures) (c .before .before .before .before .before .before .before .before .change .ensures) (c .begun .ensures)))

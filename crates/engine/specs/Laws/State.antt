@@ -1,23 +1,65 @@
--- What a call stands for. Serves the proofs, but for one row that is to be read: an ended state stands for the end (`statusTree`).
--- That the state of a call under way stands for the right tree is what `start` and `step` show.
+-- The words of a call under way, and what a state stands for. Serves the proofs, but for two rows that are to be read: an ended state
+-- stands for its end (`statusTree`), and whose words a call runs over is a word of its state (`ownOf`). That the state of a call under
+-- way stands for the right tree is what `start` and `step` show.
 use Prim.Native.Nat.{ℕ}
-use mathlib.Core.List.{List}
-use Rattle.wire.specs.Wire.{Wire, Memory, memoryOf, done}
+use mathlib.Core.Bool.{Bool, true, false}
+use mathlib.Core.List.{List, [], _∷_}
+use mathlib.Core.Path.{_≡_, subst}
+use lib.Dec.{eqb}
+use lib.ListN.{length, getD}
+use Rattle.wire.specs.Wire.{Wire, Memory, done}
+use Rattle.wire.specs.Laws.Flight.{outcomeOf}
+use Rattle.wire.specs.Laws.Rows.{spelled}
+use Rattle.wire.specs.declared.Outcome.{Outcome}
+use Rattle.wire_memap.specs.Laws.Doing.{stands}
 use Rattle.wire_memap.specs.Laws.Flight.{startedTree}
 use Rattle.call.specs.Laws.Asks.{thenOf}
+use Rattle.call.specs.declared.At.{At}
 use Rattle.engine_calls.specs.Laws.After.{callAfter}
 use Rattle.engine.specs.declared.State.{State}
-use Rattle.engine.specs.declared.Status.{Status}
-use Rattle.engine.specs.declared.Status.the-variants.{Running, Ended}
+
+-- whether a call is under way, or how it ended
+pub data Status : Type 0 where
+  Running : Status
+  Ended : Outcome → Status
+
+-- by which the two differ
+abbrev pub which : Status → ℕ
+which Running = 0
+which (Ended o) = 1
+
+abbrev pub atOf : List ℕ → At
+atOf c = record { step = getD c 0 0; a = getD c 1 0; b = getD c 2 0; c = getD c 3 0; d = getD c 4 0; e = getD c 5 0 }
+
+abbrev pub statusAs : Bool → Outcome → Status
+statusAs true o = Running
+statusAs false o = Ended o
+
+abbrev pub statusOf : List ℕ → Status
+statusOf c = statusAs (eqb (getD c 6 0) 0) (outcomeOf (getD c 7 0) (getD c 8 0))
+
+-- whether it runs over the caller's own words
+abbrev pub ownOf : List ℕ → Bool
+ownOf c = eqb (getD c 9 0) 1
+
+abbrev pub CallSized : List ℕ → Type 0
+CallSized c = length c ≡ 10
 
 -- what is in flight, over the words of its run and the caller's buffer
-abbrev pub flightTree : State → List ℕ → List ℕ → Wire
-flightTree s ws b = startedTree (s .started) (thenOf (callAfter (s .at))) (memoryOf (s .remembered) ws b)
+abbrev pub flightTree : List ℕ → List ℕ → List ℕ → List ℕ → List ℕ → Wire
+flightTree t m c ws b = startedTree t m (thenOf (callAfter (atOf c))) (stands m ws b)
 
 abbrev pub statusTree : Status → Wire → Memory → Wire
 statusTree Running flight m = flight
 statusTree (Ended o) flight m = done m o
 
--- the tree that a state stands for
+-- the tree that the words of a state stand for
+abbrev pub wordsTree : List ℕ → List ℕ → List ℕ → List ℕ → List ℕ → Wire
+wordsTree t m c ws b = statusTree (statusOf c) (flightTree t m c ws b) (stands m ws b)
+
 abbrev pub stateTree : State → List ℕ → List ℕ → Wire
-stateTree s ws b = statusTree (s .status) (flightTree s ws b) (memoryOf (s .remembered) ws b)
+stateTree s ws b = wordsTree (s .transfer) (s .op) (s .call) ws b
+
+-- a list of ten words is its ten words
+pub by-words : (Q : List ℕ → Type 0) → ((a b c d e f g h i j : ℕ) → Q (a ∷ b ∷ c ∷ d ∷ e ∷ f ∷ g ∷ h ∷ i ∷ j ∷ [])) → (c : List ℕ) → CallSized c → Q c
+by-words Q q c s = subst Q (spelled 10 c s) (q _ _ _ _ _ _ _ _ _ _)

@@ -1,94 +1,246 @@
--- What comes next in the tree of a transfer in flight is the transport call that is due; and where one is due, the call is under way.
--- Serves the proofs only.
+-- What the stores of the code leave, and why the words of a state stand for the rest of the call. Serves the proofs only.
 use Prim.Native.Nat.{ℕ}
-use mathlib.Core.Bool.{Bool}
+use mathlib.Core.Bool.{Bool, true, false}
 use mathlib.Core.List.{List, []}
 use mathlib.Core.Path.{_≡_, refl, sym, ap, subst, _∙_}
 use native.Mathlib.Omega.{arith}
+use lib.Dec.{eqb}
+use lib.ListN.{set, length, getD}
 use Rattle.wire.specs.Bytes.{handed, padded}
-use Rattle.wire.specs.Wire.{Wire, Memory, memoryOf, done, ask, tell, follow}
-use Rattle.wire.specs.Laws.Flight.{flight, dueOf}
+use Rattle.wire.specs.Wire.{Wire, Memory, memoryOf, done, follow}
+use Rattle.wire.specs.declared.Remembered.{Remembered}
+use Rattle.wire.specs.Count.{Counted}
+use Rattle.wire.specs.Laws.Flight.{outcomeOf, Mode, trying, aborting, raw, Transfer, transferOf, flight}
 use Rattle.wire.specs.declared.Answer.{Answer}
 use Rattle.wire.specs.declared.Outcome.{Outcome}
-use Rattle.wire.specs.declared.Mode.{Mode}
-use Rattle.wire.specs.declared.Mode.the-variants as D
-use Rattle.wire.specs.declared.Transfer.{Transfer}
-use Rattle.wire_numbers.specs.Numbers.{numbersOf}
+use Rattle.wire.specs.declared.Call.{Call}
 use Rattle.wire_numbers.specs.Results.{resultOf}
-use Rattle.wire_numbers.specs.declared.CallEnding.{CallEnding}
-use Rattle.engine_calls.specs.Calls.{pick}
-use Rattle.engine.specs.Laws.State.{flightTree, statusTree, stateTree}
-use Rattle.engine.specs.Step.{nextOf, bytesOf, memoryIn, CountedIn, Steps, Lent, Stepped}
-use Rattle.engine.specs.declared.State.{State}
-use Rattle.engine.specs.declared.StepAnswer.{StepAnswer}
-use Rattle.engine.specs.declared.Status.{Status}
-use Rattle.engine.specs.declared.Status.the-variants.{Running, Ended}
-use Rattle.engine.specs.declared.NextStep.the-variants as N
+use Rattle.wire_numbers.specs.Numbers.{numbersOf}
+use Rattle.wire_memap.specs.Ops.{perform}
+use Rattle.wire_memap.specs.Laws.Doing.{OpSized, rememberedOf, stands, Remembers}
+use Rattle.wire_memap.specs.Laws.Flight.{Fits, Begins, Begun, Goes, stepTree, startedTree}
+use Rattle.wire_memap.specs.declared.Op.{Op}
+use Rattle.wire_memap.specs.declared.Went.{Went}
+use Rattle.wire_memap.specs.declared.Went.the-variants.{Moving, Finished}
+use Rattle.call.specs.Change.{changed}
+use Rattle.call.specs.Job.{Job, exec}
+use Rattle.call.specs.Laws.Asks.{thenOf, nextJob, exec-op, then-is}
+use Rattle.call.specs.declared.At.{At}
+use Rattle.call.specs.declared.Asks.{Asks}
+use Rattle.call.specs.declared.Next.{Next}
+use Rattle.call.specs.declared.Next.the-variants.{Do, End}
+use Rattle.call.specs.declared.Change.{Change}
+use Rattle.engine_calls.specs.Laws.After.{callAfter, asksJob, asks-next}
+use Rattle.engine_calls.specs.Calls.{pick, jobOf, callTree}
+use Rattle.engine_calls.specs.Calls as E
+use Rattle.engine_calls.specs.declared.EngineCall.{EngineCall}
+use Rattle.engine.specs.Laws.State.{Status, Running, Ended, which, atOf, statusAs, statusOf, ownOf, CallSized, flightTree, statusTree, wordsTree, stateTree, by-words}
+use Rattle.engine.specs.Step.{CountedIn}
 
-pub record Due (m : Memory) (d : Mode) (t : Transfer) (w : Wire) : Type 0 where
-  pub next : N.Make (numbersOf (dueOf d t)) ≡ nextOf w
-  pub bytes : handed (dueOf d t) ≡ bytesOf w
-  pub memory : m ≡ memoryIn w
+-- the stores of the code
+abbrev pub storedAt : At → List ℕ → List ℕ
+storedAt at c = set (set (set (set (set (set c 0 (at .step)) 1 (at .a)) 2 (at .b)) 3 (at .c)) 4 (at .d)) 5 (at .e)
 
-pub flight-due : (d : Mode) (m : Memory) (t : Transfer) (k : Outcome → Wire) → Due m d t (flight d m t k)
-flight-due D.Trying m t k = record { next = refl; bytes = refl; memory = refl }
-flight-due D.Aborting m t k = record { next = refl; bytes = refl; memory = refl }
-flight-due D.Raw m t k = record { next = refl; bytes = refl; memory = refl }
+abbrev pub endedAs : ℕ → ℕ → List ℕ → List ℕ
+endedAs number value c = set (set (set c 6 1) 7 number) 8 value
 
--- a transport call is due
-abbrev pub Waits : Wire → Type 0
-Waits (done m o) = ⊥
-Waits (ask m c f) = Unit {0}
-Waits (tell m c w) = Unit {0}
+-- a call that has ended with o
+abbrev pub EndsIn : Outcome → List ℕ → List ℕ → Type 0
+EndsIn o c₀ c = CallSized c₀ → (statusOf c ≡ Ended o) × CallSized c × (ownOf c ≡ ownOf c₀)
 
-status-flies : (d : Status) (flight : Wire) (m : Memory) → Waits (statusTree d flight m) → statusTree d flight m ≡ flight
-status-flies Running flight m h = refl
-status-flies (Ended o) flight m h = absurd h
+pub ends-in : (o : Outcome) (n v : ℕ) (c : List ℕ) → outcomeOf n v ≡ o → EndsIn o c (endedAs n v c)
+ends-in o n v c e = by-words (λ c. (statusOf (endedAs n v c) ≡ Ended o) × CallSized (endedAs n v c) × (ownOf (endedAs n v c) ≡ ownOf c))
+    (λ _ _ _ _ _ _ _ _ _ _. (ap Ended e, refl, refl)) c
 
-pub flies : (w : Wire) (s : State) (ws b : List ℕ) → w ≡ stateTree s ws b → Waits w → w ≡ flightTree s ws b
-flies w s ws b e h = e ∙ status-flies (s .status) (flightTree s ws b) (memoryOf (s .remembered) ws b) (subst Waits e h)
+-- The words t, m and c stand for the tree w, over the words ws and the buffer b; `own` says whose words ws are.
+pub record StandsFor (w : Wire) (own : Bool) (t m c ws b : List ℕ) : Type 0 where
+  pub tree : w ≡ wordsTree t m c ws b
+  pub fits : Fits t m
+  pub sized : CallSized c
+  pub whose : ownOf c ≡ own
+  pub counted : CountedIn (statusOf c) t
 
--- the state of an ended call stands for its end
-pub ended-tree : (o : Outcome) (s : State) (ws b : List ℕ) → s .status ≡ Ended o → done (memoryOf (s .remembered) ws b) o ≡ stateTree s ws b
-ended-tree o s ws b h = ap (λ (d : Status). statusTree d (flightTree s ws b) (memoryOf (s .remembered) ws b)) (sym h)
+pub stands-for : {w v : Wire} {own : Bool} {t m c ws b : List ℕ} → w ≡ v → StandsFor v own t m c ws b → StandsFor w own t m c ws b
+stands-for {own = own} {t} {m} {c} {ws} {b} e g = subst (λ (x : Wire). StandsFor x own t m c ws b) (sym e) g
 
--- a step of a call that has ended
-pub ends-again : (s : State) (o : Outcome) (a : Answer) (e : CallEnding) (row words buf : List ℕ) → s .status ≡ Ended o → e ≡ resultOf o
-    → Stepped s a (record { next = N.Finish e; state = s; bytes = padded [] }) row words buf row words buf
-ends-again s o a e row words buf h g = record {
-  lent = record {
-    steps = subst (λ (w : Wire). Steps (follow w a) (record { next = N.Finish e; state = s; bytes = padded [] }) ws buf) tree
-        (record {
-          next = ap N.Finish g;
-          bytes = refl;
-          memory = refl;
-          tree = tree;
-          counted = subst (λ (d : Status). CountedIn d (s .started .launched .transfer)) (sym h) tt;
-        });
-    other = refl;
-    whose = refl;
+-- what is asked for is begun, or the call ends
+pub record BeginsNext (n : Next) (t₀ m₀ c₀ t m c : List ℕ) : Type 0 where
+  pub next : Fits t₀ m₀ → CallSized c₀ → (ws b : List ℕ)
+      → StandsFor (exec (nextJob n (callAfter (atOf c₀))) (stands m₀ ws b)) (ownOf c₀) t m c ws b
+
+pub next-does : (w : Op) (t₀ m₀ c₀ t m : List ℕ) → Begun (perform w) t₀ m₀ t m → BeginsNext (Do w) t₀ m₀ c₀ t m (set c₀ 6 0)
+next-does w t₀ m₀ c₀ t m g = record {
+  next = λ f s ws b. by-words
+      (λ c. StandsFor (exec (nextJob (Do w) (callAfter (atOf c))) (stands m₀ ws b)) (ownOf c) t m (set c 6 0) ws b)
+      (λ x₀ x₁ x₂ x₃ x₄ x₅ _ _ _ _. record {
+        tree = let k = callAfter (record { step = x₀; a = x₁; b = x₂; c = x₃; d = x₄; e = x₅ }) in
+            exec-op w k (stands m₀ ws b) ∙ g ws f .tree b (thenOf k);
+        fits = g ws f .fits;
+        sized = refl;
+        whose = refl;
+        counted = g ws f .counted;
+      }) c₀ s;
+}
+
+pub next-ends : (o : Outcome) (t₀ m₀ c₀ c : List ℕ) → EndsIn o c₀ c → BeginsNext (End o) t₀ m₀ c₀ t₀ m₀ c
+unfolding exec
+next-ends o t₀ m₀ c₀ c g = record {
+  next = λ f s ws b. let e = g s in record {
+    tree = ap (λ (d : Status). statusTree d (flightTree t₀ m₀ c ws b) (stands m₀ ws b)) (sym (e .0));
+    fits = f;
+    sized = e .1;
+    whose = e .2;
+    counted = subst (λ (d : Status). CountedIn d t₀) (sym (e .0)) tt;
   };
-  stays = λ _ _. refl;
+}
+
+-- a change of what is kept
+pub record Changes (x : Change) (m₀ ws₀ b₀ m ws b : List ℕ) : Type 0 where
+  pub made : OpSized m₀ → (changed x (stands m₀ ws₀ b₀) ≡ stands m ws b) × OpSized m
+
+pub changes-in : (x : Change) (m₀ ws₀ b₀ : List ℕ) {r r₂ : Remembered} {m ws b : List ℕ} → r ≡ rememberedOf m₀
+    → changed x (memoryOf r ws₀ b₀) ≡ memoryOf r₂ ws b → (OpSized m₀ → Remembers r₂ m) → Changes x m₀ ws₀ b₀ m ws b
+changes-in x m₀ ws₀ b₀ {ws = ws} {b} e h g = record {
+  made = λ s.
+      (ap (λ (r : Remembered). changed x (memoryOf r ws₀ b₀)) (sym e) ∙ h ∙ ap (λ (r : Remembered). memoryOf r ws b) (sym (g s .is)), g s .sized);
+}
+
+-- where an operation of the call is in flight, and what it asks for then
+stored-at : (at : At) (c : List ℕ) → CallSized c → (atOf (storedAt at c) ≡ at) × CallSized (storedAt at c) × (ownOf (storedAt at c) ≡ ownOf c)
+stored-at at = by-words (λ c. (atOf (storedAt at c) ≡ at) × CallSized (storedAt at c) × (ownOf (storedAt at c) ≡ ownOf c))
+    (λ _ _ _ _ _ _ _ _ _ _. (refl, refl, refl))
+
+pub record AsksIn (a : Asks) (t₀ m₀ c₀ ws₀ b₀ t m c ws b : List ℕ) : Type 0 where
+  pub asks : Fits t₀ m₀ → CallSized c₀ → StandsFor (exec (asksJob a) (stands m₀ ws₀ b₀)) (ownOf c₀) t m c ws b
+
+asked-at : (a : Asks) (t₀ m₀ c₀ ws₀ b₀ m₁ c₁ t m c ws b : List ℕ) → c₁ ≡ storedAt (a .at) c₀ → Changes (a .change) m₀ ws₀ b₀ m₁ ws b
+    → BeginsNext (a .next) t₀ m₁ c₁ t m c → Fits t₀ m₀ → CallSized c₀ → StandsFor (exec (asksJob a) (stands m₀ ws₀ b₀)) (ownOf c₀) t m c ws b
+asked-at a t₀ m₀ c₀ ws₀ b₀ m₁ c₁ t m c ws b at ch g f s = record {
+  tree = asks-next a (stands m₀ ws₀ b₀) (stands m₁ ws b) (x .0) ∙ ap (λ (p : At). exec (nextJob (a .next) (callAfter p)) (stands m₁ ws b)) (sym (y .0)) ∙ z .tree;
+  fits = z .fits;
+  sized = z .sized;
+  whose = z .whose ∙ y .2;
+  counted = z .counted;
 }
   where
-    ws : List ℕ
-    ws = pick (s .own) words row
+    x : (changed (a .change) (stands m₀ ws₀ b₀) ≡ stands m₁ ws b) × OpSized m₁
+    x = ch .made (f .1)
 
-    tree : done (memoryOf (s .remembered) ws buf) o ≡ stateTree s ws buf
-    tree = ended-tree o s ws buf h
+    y : (atOf (storedAt (a .at) c₀) ≡ a .at) × CallSized (storedAt (a .at) c₀) × (ownOf (storedAt (a .at) c₀) ≡ ownOf c₀)
+    y = stored-at (a .at) c₀ s
 
--- A step of one under way, over the words that `own` names; the others are unchanged.
-pub moves : (own : Bool) (s : State) (a : Answer) (x : StepAnswer) (row₀ words₀ buf₀ row words buf : List ℕ) → s .status ≡ Running → s .own ≡ own
-    → pick own row words ≡ pick own row₀ words₀
-    → Steps (follow (flightTree s (pick own words₀ row₀) buf₀) a) x (pick own words row) buf × (x .state .own ≡ s .own)
-    → Stepped s a x row₀ words₀ buf₀ row words buf
-moves own s a x row₀ words₀ buf₀ row words buf h ho other l = record {
-  lent = subst (λ (d : Status). Lent (s .own) (follow (statusTree d (flightTree s ws buf₀) (memoryOf (s .remembered) ws buf₀)) a) x row₀ words₀
-      row words buf) (sym h)
-      (subst (λ (b : Bool). Lent b (follow (flightTree s (pick b words₀ row₀) buf₀) a) x row₀ words₀ row words buf) (sym ho)
-      (record { steps = l .0; other = other; whose = l .1 ∙ ho }));
-  stays = λ o e. let z : _≡_ {A = ℕ} 0 1 = cc in absurd (omega arith);
+    z : StandsFor (exec (nextJob (a .next) (callAfter (atOf (storedAt (a .at) c₀)))) (stands m₁ ws b)) (ownOf (storedAt (a .at) c₀)) t m c ws b
+    z = subst (λ (l : List ℕ). BeginsNext (a .next) t₀ m₁ l t m c) at g .next (f .0, x .1) (y .1) ws b
+
+pub asks-in : (a : Asks) (t₀ m₀ c₀ ws₀ b₀ m₁ c₁ t m c ws b : List ℕ) → c₁ ≡ storedAt (a .at) c₀ → Changes (a .change) m₀ ws₀ b₀ m₁ ws b
+    → BeginsNext (a .next) t₀ m₁ c₁ t m c → AsksIn a t₀ m₀ c₀ ws₀ b₀ t m c ws b
+asks-in a t₀ m₀ c₀ ws₀ b₀ m₁ c₁ t m c ws b at ch g = record { asks = asked-at a t₀ m₀ c₀ ws₀ b₀ m₁ c₁ t m c ws b at ch g }
+
+-- a step of a call under way: its operation goes on, or it is over and the call asks for what follows
+pub record StepsIn (a : Answer) (t₀ m₀ c₀ ws₀ b₀ t m c ws b : List ℕ) : Type 0 where
+  pub steps : statusOf c₀ ≡ Running → Fits t₀ m₀ → CallSized c₀
+      → StandsFor (follow (flightTree t₀ m₀ c₀ ws₀ b₀) a) (ownOf c₀) t m c ws b
+
+pub step-moves : (a : Answer) (t₀ m₀ c₀ ws₀ b : List ℕ) {r : Went} {t m ws : List ℕ} → r ≡ Moving → (Fits t₀ m₀ → Goes (stepTree t₀ m₀ a ws₀) r t m ws)
+    → StepsIn a t₀ m₀ c₀ ws₀ b t m c₀ ws b
+step-moves a t₀ m₀ c₀ ws₀ b {r} {t} {m} {ws} e g = record {
+  steps = λ run f s. record {
+    tree = h f .tree b _ ∙ ap (λ (d : Status). statusTree d (flightTree t m c₀ ws b) (stands m ws b)) (sym run);
+    fits = h f .fits;
+    sized = s;
+    whose = refl;
+    counted = subst (λ (d : Status). CountedIn d t) (sym run) (h f .counted);
+  };
 }
   where
+    h : Fits t₀ m₀ → Goes (stepTree t₀ m₀ a ws₀) Moving t m ws
+    h f = subst (λ (x : Went). Goes (stepTree t₀ m₀ a ws₀) x t m ws) e (g f)
+
+pub step-asks : (a : Answer) (t₀ m₀ c₀ ws₀ b₀ : List ℕ) {r : Went} {t₁ m₁ ws₁ : List ℕ} (o : Outcome) (x : Asks) {p : At} {t m c ws b : List ℕ} → r ≡ Finished o
+    → (Fits t₀ m₀ → Goes (stepTree t₀ m₀ a ws₀) r t₁ m₁ ws₁) → p ≡ atOf c₀ → callAfter p o ≡ asksJob x → AsksIn x t₁ m₁ c₀ ws₁ b₀ t m c ws b
+    → StepsIn a t₀ m₀ c₀ ws₀ b₀ t m c ws b
+step-asks a t₀ m₀ c₀ ws₀ b₀ {r} {t₁} {m₁} {ws₁} o x e g at is k = record {
+  steps = λ run f s.
+      stands-for (h f .tree b₀ _ ∙ then-is (callAfter (atOf c₀)) (stands m₁ ws₁ b₀) o ∙ ap (λ (j : Job). exec j (stands m₁ ws₁ b₀)) (ap (λ (p : At). callAfter p o) (sym at) ∙ is))
+      (k .asks (h f .fits) s);
+}
+  where
+    h : Fits t₀ m₀ → Goes (stepTree t₀ m₀ a ws₀) (Finished o) t₁ m₁ ws₁
+    h f = subst (λ (y : Went). Goes (stepTree t₀ m₀ a ws₀) y t₁ m₁ ws₁) e (g f)
+
+-- The same over a row and the caller's words, of which `own` says which one the call runs over; the other is unchanged.
+pub record LentIn (own : Bool) (w : Wire) (t m c row₀ words₀ row words b : List ℕ) : Type 0 where
+  pub stand : StandsFor w own t m c (pick own words row) b
+  pub other : pick own row words ≡ pick own row₀ words₀
+
+-- a call is started in the words t₀, m₀ and c₀, of which m₀ has what is remembered
+pub record StartedIn (x : EngineCall) (t₀ m₀ c₀ row₀ words₀ b₀ t m c row words b : List ℕ) : Type 0 where
+  pub lent : Fits t₀ m₀ → CallSized c₀ → LentIn (E.lent x) (callTree x (rememberedOf m₀) row₀ words₀ b₀) t m c row₀ words₀ row words b
+
+-- a step; a call that has ended stays as it is
+pub record SteppedIn (a : Answer) (t₀ m₀ c₀ row₀ words₀ b₀ t m c row words b : List ℕ) : Type 0 where
+  pub lent : Fits t₀ m₀ → CallSized c₀
+      → LentIn (ownOf c₀) (follow (wordsTree t₀ m₀ c₀ (pick (ownOf c₀) words₀ row₀) b₀) a) t m c row₀ words₀ row words b
+  pub stays : (o : Outcome) → statusOf c₀ ≡ Ended o → (t ≡ t₀) × (m ≡ m₀) × (c ≡ c₀)
+
+-- whose words a call runs over
+own-set : (n : ℕ) (c : List ℕ) → CallSized c → (ownOf (set c 9 n) ≡ eqb n 1) × CallSized (set c 9 n)
+own-set n = by-words (λ c. (ownOf (set c 9 n) ≡ eqb n 1) × CallSized (set c 9 n)) (λ _ _ _ _ _ _ _ _ _ _. (refl, refl))
+
+pub starts-in : (n : ℕ) (own : Bool) (x : EngineCall) (y : Asks) (t₀ m₀ c₀ row₀ words₀ b₀ : List ℕ) {t m c row words b : List ℕ} → eqb n 1 ≡ own → E.lent x ≡ own
+    → jobOf x (length words₀) (length b₀) ≡ asksJob y
+    → AsksIn y t₀ m₀ (set c₀ 9 n) (pick own words₀ row₀) b₀ t m c (pick own words row) b → pick own row words ≡ pick own row₀ words₀
+    → StartedIn x t₀ m₀ c₀ row₀ words₀ b₀ t m c row words b
+starts-in n own x y t₀ m₀ c₀ row₀ words₀ b₀ {t} {m} {c} {row} {words} {b} e l is k o = record {
+  lent = λ f s.
+      subst (λ (own : Bool). LentIn own (exec (jobOf x (length words₀) (length b₀)) (memoryOf (rememberedOf m₀) (pick own words₀ row₀) b₀)) t m c row₀ words₀ row words b) (sym l)
+      (record {
+        stand = subst (λ (p : Bool). StandsFor (exec (jobOf x (length words₀) (length b₀)) (stands m₀ (pick own words₀ row₀) b₀)) p t m c (pick own words row) b)
+            (own-set n c₀ s .0 ∙ e)
+            (stands-for (ap (λ (j : Job). exec j (stands m₀ (pick own words₀ row₀) b₀)) is) (k .asks f (own-set n c₀ s .1)));
+        other = o;
+      });
+}
+
+-- a step of a call under way, over the words that `own` names
+pub steps-in : (own : Bool) (a : Answer) (t₀ m₀ c₀ row₀ words₀ b₀ : List ℕ) {t m c row words b : List ℕ} → eqb (getD c₀ 6 0) 0 ≡ true → ownOf c₀ ≡ own
+    → StepsIn a t₀ m₀ c₀ (pick own words₀ row₀) b₀ t m c (pick own words row) b → pick own row words ≡ pick own row₀ words₀
+    → SteppedIn a t₀ m₀ c₀ row₀ words₀ b₀ t m c row words b
+steps-in own a t₀ m₀ c₀ row₀ words₀ b₀ {t} {m} {c} {row} {words} {b} z w k o = record {
+  lent = λ f s. subst (λ (own : Bool). LentIn own (follow (wordsTree t₀ m₀ c₀ (pick own words₀ row₀) b₀) a) t m c row₀ words₀ row words b) (sym w)
+      (record {
+        stand = stands-for (ap (λ (d : Status). follow (statusTree d (flightTree t₀ m₀ c₀ (pick own words₀ row₀) b₀) (stands m₀ (pick own words₀ row₀) b₀)) a) run)
+            (subst (λ (p : Bool). StandsFor (follow (flightTree t₀ m₀ c₀ (pick own words₀ row₀) b₀) a) p t m c (pick own words row) b) w (k .steps run f s));
+        other = o;
+      });
+  stays = λ e h. absurd (runs-on e (sym run ∙ h));
+}
+  where
+    run : statusOf c₀ ≡ Running
+    run = ap (λ (x : Bool). statusAs x (outcomeOf (getD c₀ 7 0) (getD c₀ 8 0))) z
+
+    runs-on : (e : Outcome) → Running ≡ Ended e → ⊥
+    runs-on e h = let q : _≡_ {A = ℕ} 0 1 = ap which h in absurd (omega arith)
+
+-- a step of one that has ended
+pub ends-again : (a : Answer) (t m c row words b : List ℕ) → eqb (getD c 6 0) 0 ≡ false → SteppedIn a t m c row words b t m c row words b
+ends-again a t m c row words b z = record {
+  lent = λ f s. record {
+    stand = record { tree = same; fits = f; sized = s; whose = refl; counted = subst (λ (d : Status). CountedIn d t) (sym ended) tt };
+    other = refl;
+  };
+  stays = λ e h. (refl, refl, refl);
+}
+  where
+    o : Outcome
+    o = outcomeOf (getD c 7 0) (getD c 8 0)
+
     ws : List ℕ
-    ws = pick (s .own) words₀ row₀
+    ws = pick (ownOf c) words row
+
+    ended : statusOf c ≡ Ended o
+    ended = ap (λ (x : Bool). statusAs x o) z
+
+    same : follow (wordsTree t m c ws b) a ≡ wordsTree t m c ws b
+    same = ap (λ (d : Status). follow (statusTree d (flightTree t m c ws b) (stands m ws b)) a) ended
+        ∙ ap (λ (d : Status). statusTree d (flightTree t m c ws b) (stands m ws b)) (sym ended)

@@ -1,10 +1,10 @@
 -- The words of an operation in flight, and what they stand for: every list of words has a meaning. Serves the proofs only.
 use Prim.Native.Nat.{ℕ, _%_}
-use mathlib.Core.Bool.{Bool}
+use mathlib.Core.Bool.{Bool, true, false}
 use mathlib.Core.List.{List, [], _∷_}
-use mathlib.Core.Path.{_≡_, subst}
+use mathlib.Core.Path.{_≡_, refl, sym, ap, subst, _∙_}
 use lib.Dec.{eqb, leb}
-use lib.ListN.{length, getD}
+use lib.ListN.{length, getD, set}
 use Rattle.wire.specs.Wire.{Memory, memoryOf}
 use Rattle.wire.specs.Laws.Rows.{spelled}
 use Rattle.wire.specs.declared.Remembered.{Remembered}
@@ -83,3 +83,22 @@ OpSized m = length m ≡ 12
 pub by-words : (Q : List ℕ → Type 0)
     → ((a b c d e f g h i j k l : ℕ) → Q (a ∷ b ∷ c ∷ d ∷ e ∷ f ∷ g ∷ h ∷ i ∷ j ∷ k ∷ l ∷ [])) → (m : List ℕ) → OpSized m → Q m
 by-words Q q m s = subst Q (spelled 12 m s) (q _ _ _ _ _ _ _ _ _ _ _ _)
+
+-- the stores of `remember`
+remembered-is : (r : Remembered) {c : Bool} {a : ℕ} → c ≡ r .csw → a ≡ r .apsel → record { select = r .select; csw = c; apsel = a } ≡ r
+remembered-is r {c} {a} h g =
+    ap (λ (x : Bool). record { select = r .select; csw = x; apsel = a }) h ∙ ap (λ (x : ℕ). record { select = r .select; csw = r .csw; apsel = x }) g
+
+pub record Remembers (r : Remembered) (m : List ℕ) : Type 0 where
+  pub is : rememberedOf m ≡ r
+  pub sized : OpSized m
+
+pub remembers-known : (r : Remembered) (a : ℕ) (m : List ℕ) → a % 256 ≡ r .apsel → r .csw ≡ true → OpSized m
+    → Remembers r (set (set (set (set m 9 (r .select)) 10 0) 11 a) 10 1)
+remembers-known r a m g h = by-words (λ m. Remembers r (set (set (set (set m 9 (r .select)) 10 0) 11 a) 10 1))
+    (λ _ _ _ _ _ _ _ _ _ _ _ _. record { is = remembered-is r (sym h) g; sized = refl }) m
+
+pub remembers-unknown : (r : Remembered) (a : ℕ) (m : List ℕ) → a % 256 ≡ r .apsel → r .csw ≡ false → OpSized m
+    → Remembers r (set (set (set m 9 (r .select)) 10 0) 11 a)
+remembers-unknown r a m g h = by-words (λ m. Remembers r (set (set (set m 9 (r .select)) 10 0) 11 a))
+    (λ _ _ _ _ _ _ _ _ _ _ _ _. record { is = remembered-is r (sym h) g; sized = refl }) m

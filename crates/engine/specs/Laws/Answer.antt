@@ -1,0 +1,106 @@
+-- What comes next in the tree of a state is what its words tell. Serves the proofs only.
+use Prim.Native.Nat.{ℕ}
+use mathlib.Core.Bool.{Bool, true, false}
+use mathlib.Core.List.{List, []}
+use mathlib.Core.Path.{_≡_, refl, sym, ap, subst, _∙_}
+use lib.Dec.{eqb}
+use lib.ListN.{getD, replicate}
+use Rattle.wire.specs.Bytes.{handed, padded}
+use Rattle.wire.specs.Wire.{Wire, Memory, memoryOf, done, follow}
+use Rattle.wire.specs.Laws.Flight.{outcomeOf, Mode, Transfer, transferOf, flight}
+use Rattle.wire.specs.Laws.Flight as D
+use Rattle.wire.specs.declared.Answer.{Answer}
+use Rattle.wire.specs.declared.Call.{Call}
+use Rattle.wire.specs.declared.Outcome.{Outcome}
+use Rattle.wire_numbers.specs.Results.{resultOf}
+use Rattle.wire_numbers.specs.Numbers.{numbersOf}
+use Rattle.wire_numbers.specs.declared.CallEnding.{CallEnding}
+use Rattle.wire_numbers.specs.declared.TransportCall.{TransportCall}
+use Rattle.wire_memap.specs.Laws.Doing.{rememberedOf, stands, Remembers}
+use Rattle.wire_memap.specs.Laws.Flight.{Fits}
+use Rattle.engine_calls.specs.Calls.{pick, lent, callTree}
+use Rattle.engine_calls.specs.declared.EngineCall.{EngineCall}
+use Rattle.wire.specs.declared.Remembered.{Remembered}
+use Rattle.engine.specs.Step.{nextOf, bytesOf, memoryIn, CountedIn, Steps, Lent, Stepped}
+use Rattle.engine.specs.Laws.State.{Status, Running, Ended, statusAs, statusOf, ownOf, CallSized, flightTree, statusTree, wordsTree, stateTree}
+use Rattle.engine.specs.Laws.Step.{StandsFor, LentIn, StartedIn, SteppedIn}
+use Rattle.engine.specs.declared.NextStep.{NextStep}
+use Rattle.engine.specs.declared.NextStep.the-variants as N
+use Rattle.engine.specs.declared.State.{State}
+use Rattle.engine.specs.declared.StepAnswer.{StepAnswer}
+
+-- the tree w tells the answer's next call or ending, its bytes, and the memory m
+pub record Tells (w : Wire) (next : NextStep) (bytes : List ℕ) (m : Memory) : Type 0 where
+  pub step : next ≡ nextOf w
+  pub hands : bytes ≡ padded (bytesOf w)
+  pub memory : m ≡ memoryIn w
+
+flight-tells : (d : Mode) (m : Memory) (t : Transfer) (k : Outcome → Wire) → Tells (flight d m t k) (N.Make (numbersOf (t .call))) (padded (handed (t .call))) m
+flight-tells D.trying m t k = record { step = refl; hands = refl; memory = refl }
+flight-tells D.aborting m t k = record { step = refl; hands = refl; memory = refl }
+flight-tells D.raw m t k = record { step = refl; hands = refl; memory = refl }
+
+-- an answer to the words t, m and c
+pub record Answers (t m c : List ℕ) (x : StepAnswer) : Type 0 where
+  pub words : x .state ≡ record { transfer = t; op = m; call = c }
+  pub tells : (ws b : List ℕ) → Tells (wordsTree t m c ws b) (x .next) (x .bytes) (stands m ws b)
+
+pub answers-call : (t m c : List ℕ) (x : Call) {n : TransportCall} {bs : List ℕ} → eqb (getD c 6 0) 0 ≡ true → x ≡ transferOf t .call → n ≡ numbersOf x
+    → bs ≡ padded (handed x) → Answers t m c (record { next = N.Make n; state = record { transfer = t; op = m; call = c }; bytes = bs })
+answers-call t m c x {n} {bs} z d h g = record {
+  words = refl;
+  tells = λ ws b. subst (λ (w : Wire). Tells w (N.Make n) bs (stands m ws b)) (sym (runs ws b))
+      (subst (λ (y : TransportCall). Tells (flightTree t m c ws b) (N.Make y) bs (stands m ws b)) (sym (h ∙ ap numbersOf d))
+      (subst (λ (y : List ℕ). Tells (flightTree t m c ws b) (N.Make (numbersOf (transferOf t .call))) y (stands m ws b)) (sym (g ∙ ap (λ (x : Call). padded (handed x)) d))
+      (flight-tells (transferOf t .mode) (stands m ws b) (transferOf t) _)));
+}
+  where
+    runs : (ws b : List ℕ) → wordsTree t m c ws b ≡ flightTree t m c ws b
+    runs ws b = ap (λ (x : Bool). statusTree (statusAs x (outcomeOf (getD c 7 0) (getD c 8 0))) (flightTree t m c ws b) (stands m ws b)) z
+
+pub answers-end : (t m c : List ℕ) (o : Outcome) {e : CallEnding} → eqb (getD c 6 0) 0 ≡ false → o ≡ outcomeOf (getD c 7 0) (getD c 8 0) → e ≡ resultOf o
+    → Answers t m c (record { next = N.Finish e; state = record { transfer = t; op = m; call = c }; bytes = padded [] })
+answers-end t m c o {e} z d h = record {
+  words = refl;
+  tells = λ ws b. subst (λ (w : Wire). Tells w (N.Finish e) (padded []) (stands m ws b)) (sym (ends ws b))
+      (record { step = ap N.Finish (h ∙ ap resultOf d); hands = refl; memory = refl });
+}
+  where
+    ends : (ws b : List ℕ) → wordsTree t m c ws b ≡ done (stands m ws b) (outcomeOf (getD c 7 0) (getD c 8 0))
+    ends ws b = ap (λ (x : Bool). statusTree (statusAs x (outcomeOf (getD c 7 0) (getD c 8 0))) (flightTree t m c ws b) (stands m ws b)) z
+
+-- what stands for a tree and is answered steps
+pub answered : {w : Wire} {own : Bool} {t m c row₀ words₀ row words b : List ℕ} (x : StepAnswer) → LentIn own w t m c row₀ words₀ row words b → Answers t m c x
+    → Lent own w x row₀ words₀ row words b
+answered {w} {own} {t} {m} {c} {row₀} {words₀} {row} {words} {b} x l a = record {
+  steps = record {
+    next = tells .step;
+    bytes = tells .hands;
+    memory = ap (λ (s : State). memoryOf (rememberedOf (s .op)) ws b) (a .words) ∙ tells .memory;
+    tree = l .stand .tree ∙ ap (λ (s : State). stateTree s ws b) (sym (a .words));
+    counted = subst (λ (s : State). CountedIn (statusOf (s .call)) (s .transfer)) (sym (a .words)) (l .stand .counted);
+  };
+  other = l .other;
+  whose = ap (λ (s : State). ownOf (s .call)) (a .words) ∙ l .stand .whose;
+}
+  where
+    ws : List ℕ
+    ws = pick own words row
+
+    tells : Tells w (x .next) (x .bytes) (stands m ws b)
+    tells = subst (λ (w : Wire). Tells w (x .next) (x .bytes) (stands m ws b)) (sym (l .stand .tree)) (a .tells ws b)
+
+pub stepped : {a : Answer} (s : State) {t m c row₀ words₀ b₀ row words b : List ℕ} (x : StepAnswer) → Fits (s .transfer) (s .op) → CallSized (s .call)
+    → SteppedIn a (s .transfer) (s .op) (s .call) row₀ words₀ b₀ t m c row words b → Answers t m c x → Stepped s a x row₀ words₀ b₀ row words b
+stepped s {t} {m} {c} x f z g a = record {
+  lent = answered x (g .lent f z) a;
+  stays = λ o h. let y = g .stays o h in a .words
+      ∙ ap (λ (l : List ℕ). record { transfer = l; op = m; call = c }) (y .0) ∙ ap (λ (l : List ℕ). record { transfer = s .transfer; op = l; call = c }) (y .1)
+      ∙ ap (λ (l : List ℕ). record { transfer = s .transfer; op = s .op; call = l }) (y .2);
+}
+
+pub started : {r : Remembered} {x : EngineCall} {m₀ row₀ words₀ b₀ t m c row words b : List ℕ} (y : StepAnswer) → Remembers r m₀
+    → StartedIn x (replicate 7 0) m₀ (replicate 10 0) row₀ words₀ b₀ t m c row words b → Answers t m c y
+    → Lent (lent x) (callTree x r row₀ words₀ b₀) y row₀ words₀ row words b
+started {r} {x} {m₀} {row₀} {words₀} {b₀} {row = row} {words} {b} y h g a =
+    subst (λ (r : Remembered). Lent (lent x) (callTree x r row₀ words₀ b₀) y row₀ words₀ row words b) (h .is) (answered y (g .lent (refl, h .sized) refl) a)
