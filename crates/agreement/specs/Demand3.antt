@@ -4,7 +4,7 @@ use mathlib.Core.Bool.{Bool, true, false, not, _&&_, _||_}
 use mathlib.Core.List.{List, [], _∷_}
 use mathlib.Core.Path.{_≡_}
 use lib.Dec.{eqb, leb, ltb}
-use lib.ListN.{length, getD, drop}
+use lib.ListN.{length, getD}
 use Rattle.wire.specs.Bytes.{leBytes}
 use Rattle.wire.specs.Wire.{ended, spent, succeeds}
 use Rattle.wire.specs.declared.Call.{Call}
@@ -17,23 +17,14 @@ use Rattle.wire_memap.specs.Ports.{CSW-DEFAULT}
 use Rattle.target.specs.Choice.{pick}
 use Rattle.target.specs.Memory.{byteAt}
 use Rattle.target.specs.declared.Target.{Target}
-use Rattle.target.specs.declared.Act.{Act}
 use Rattle.target.specs.declared.Byte.{Byte}
 use Rattle.target.specs.declared.Byte.the-variants as B
-use Rattle.target_line.specs.Talk.{Talk, talk, silent}
-use Rattle.session_rules.specs.Admits.{isConnect, refusal}
+use Rattle.session_rules.specs.Admits.{isConnect}
 use Rattle.session_phase.specs.Phase.{loss, isSpent, opensAfter}
-use Rattle.session_rules.specs.Session.{Standing, closed, Result, refused, ran, succeeded, Called, called, checked, sessionTree}
+use Rattle.session_rules.specs.Session.{Standing, Result, refused, ran, succeeded, called}
 use Rattle.session_rules.specs.declared.SessionCall.{SessionCall}
 use Rattle.session_rules.specs.declared.SessionCall.the-variants as S
-use Rattle.session_rules.specs.declared.Check.{Check}
-use Rattle.session_rules.specs.declared.Check.the-variants.{Pass, Refuse}
-
--- one call of a list, with its budget and buffer
-pub record Item : Type 0 where
-  pub call : SessionCall
-  pub budget : ℕ
-  pub buf : List ℕ
+use Rattle.session_items.specs.History.{Item, Moment, Made, lastOf}
 
 -- the buffers of a list hold bytes
 abbrev pub Bytes : List ℕ → Type 0
@@ -42,54 +33,6 @@ Bytes l = (i : ℕ) → getD l i 0 < 256
 abbrev pub Buffers : List Item → Type 0
 Buffers [] = Unit {0}
 Buffers (i ∷ items) = Bytes (i .buf) × Buffers items
-
--- session, target and memory between two calls
-pub record Moment : Type 0 where
-  pub standing : Standing
-  pub target : Target
-  pub mem : List ℕ
-
-abbrev pub first : Target → List ℕ → Moment
-first t mem = record { standing = closed; target = t; mem = mem }
-
--- a call that was made: how it found things, what was answered, what came of it, and how it left them
-pub record Made : Type 0 where
-  pub item : Item
-  pub before : Moment
-  pub answers : List Answer
-  pub came : Called
-  pub after : Moment
-
--- what the session hears during a call, and the target afterwards
-abbrev pub heardIf : Check → Moment → Item → List Act → Talk
-heardIf (Refuse r) x i acts = silent (x .target) (x .mem)
-heardIf Pass x i acts = talk (sessionTree (x .standing) (i .call) (i .buf)) (i .budget) acts (x .target) (x .mem)
-
--- a call, by what its checks came to
-abbrev pub madeIf : Check → Moment → Item → List Act → Made
-madeIf k x i acts = record {
-  item = i;
-  before = x;
-  answers = heardIf k x i acts .answers;
-  came = checked k (x .standing) (i .call) (i .buf) (heardIf k x i acts .answers);
-  after = record {
-    standing = checked k (x .standing) (i .call) (i .buf) (heardIf k x i acts .answers) .after;
-    target = heardIf k x i acts .target;
-    mem = heardIf k x i acts .mem;
-  };
-}
-
-abbrev pub made : Moment → Item → List Act → Made
-made x i acts = madeIf (refusal (x .standing .isOpen) (i .call) (length (i .buf))) x i acts
-
--- each call finds session and target as the last one left them, and the line as it goes on
-unfoldable pub history : Moment → List Item → List Act → List Made
-history x [] acts = []
-history x (i ∷ items) acts = made x i acts ∷ history (made x i acts .after) items (drop (length (made x i acts .answers)) acts)
-
-abbrev pub lastOf : Moment → List Made → Moment
-lastOf x [] = x
-lastOf x (m ∷ ms) = lastOf (m .after) ms
 
 -- Clause 1: open by the calls, their results and the answers alone.
 abbrev pub isTransfer : Call → Bool

@@ -25,3 +25,4 @@ pub mod WriteTurns
 pub mod OneWord
 pub mod Memory
 pub mod Theorem
+pub mod InStep

@@ -4,4 +4,3 @@ pub mod Under
 pub mod Turn
 pub mod List
 pub mod Listing
-pub mod InStep

@@ -1,3 +1,2 @@
 pub mod Ran
-pub mod Items
 pub mod Laws

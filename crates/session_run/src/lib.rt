@@ -2,10 +2,10 @@
 ghost use mathlib.Core.Path.{_≡_};
 ghost use Prim.Native.Nat.{min};
 ghost use lib.ListN.{length, drop, set};
+ghost use Rattle.session_items.specs.Items.{actsOf, itemsOf};
 ghost use Rattle.target_line.specs.Talk.{actNow, actsThen};
-ghost use Rattle.agreement.specs.Demand3.{made, history};
-ghost use Rattle.session_run.specs.Ran.{moment, item, CallRuns};
-ghost use Rattle.session_run.specs.Items.{codeOf, actsOf, itemsOf, ListRuns};
+ghost use Rattle.session_items.specs.History.{made, history, item};
+ghost use Rattle.session_run.specs.Ran.{moment, CallRuns, codeOf, ListRuns};
 ghost use Rattle.session_run.specs.Laws.Under.{dueNow};
 ghost use Rattle.session_run.specs.Laws.Turn.{Turns, callRan};
 ghost use Rattle.session_run.specs.Laws.Listing.{listRan};

@@ -11,7 +11,8 @@ use borrow.Author.Tests.{le-leb, lt-leb, lt-ltb, le-ltb, leb-true}
 use Rattle.target.specs.Choice.{pick}
 use Rattle.target.specs.declared.Byte.{Byte}
 use Rattle.target.specs.declared.Byte.the-variants.{Value, Absent}
-use Rattle.agreement.specs.Demand3.{Made, byte, among, renewed, OldOrNew, old, renew}
+use Rattle.session_items.specs.History.{Made}
+use Rattle.agreement.specs.Demand3.{byte, among, renewed, OldOrNew, old, renew}
 use Rattle.agreement.specs.Laws.Progress.{Progress}
 
 -- the byte at an address of a memory that starts at `base`

@@ -18,7 +18,7 @@ use Rattle.session_rules.specs.Session.{Standing, sessionTree, lostIn, settled}
 use Rattle.session_rules.specs.declared.SessionCall.{SessionCall}
 use Rattle.session_rules.specs.declared.Check.{Check}
 use Rattle.session_rules.specs.declared.Check.the-variants.{Pass, Refuse}
-use Rattle.agreement.specs.Demand3.{Item, Moment, made, madeIf}
+use Rattle.session_items.specs.History.{Item, Moment, made, madeIf}
 use Rattle.agreement.specs.Laws.Safe.{Safe, Holds, lives}
 use Rattle.agreement.specs.Laws.Kept.{Kept, admitted-open}
 use Rattle.agreement.specs.Laws.Jobs.{Agreed, Ends, forgetful, job-safe}

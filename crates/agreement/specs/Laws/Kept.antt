@@ -8,7 +8,8 @@ use Rattle.target.specs.WellFormed.{WellFormed}
 use Rattle.session_rules.specs.Admits.{isConnect, refusal}
 use Rattle.session_rules.specs.declared.SessionCall.{SessionCall}
 use Rattle.session_rules.specs.declared.Check.the-variants.{Pass}
-use Rattle.agreement.specs.Demand3.{Moment, Agree}
+use Rattle.session_items.specs.History.{Moment}
+use Rattle.agreement.specs.Demand3.{Agree}
 
 pub record Kept (x : Moment) : Type 0 where
   pub formed : WellFormed (x .target) (x .mem)

@@ -24,7 +24,8 @@ use Rattle.session_rules.specs.declared.Refusal.{Refusal}
 use Rattle.session_rules.specs.declared.Refusal.the-variants as R
 use Rattle.session_rules.specs.declared.Check.{Check}
 use Rattle.session_rules.specs.declared.Check.the-variants.{Pass, Refuse}
-use Rattle.agreement.specs.Demand3.{Bytes, Item, Moment, Made, madeIf, made, Reads, Writes, old, valueBytes, MemoryKept}
+use Rattle.session_items.specs.History.{Item, Moment, Made, madeIf, made}
+use Rattle.agreement.specs.Demand3.{Bytes, Reads, Writes, old, valueBytes, MemoryKept}
 use Rattle.agreement.specs.Laws.Kept.{Kept}
 use Rattle.agreement.specs.Laws.Safe.{Post, Stand, Safe, Holds, lives}
 use Rattle.agreement.specs.Laws.Progress.{Progress, progress-none}

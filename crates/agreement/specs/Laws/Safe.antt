@@ -1,8 +1,8 @@
 -- What holds of a tree over every line: at its end, and wherever its budget may run out. Serves the proofs only.
 use Prim.Native.Nat.{ℕ, zero, suc}
-use mathlib.Core.Bool.{Bool, true, false, _||_}
+use mathlib.Core.Bool.{Bool, _||_}
 use mathlib.Core.List.{List}
-use mathlib.Core.Path.{_≡_, refl}
+use Rattle.session_phase.specs.Laws.Phase.{or-more, or-none}
 use Rattle.wire.specs.Wire.{Wire, Memory, done, ask, tell, play, Ending, ended, spent}
 use Rattle.wire.specs.declared.Outcome.{Outcome}
 use Rattle.target.specs.Line.{line}
@@ -32,14 +32,6 @@ Safe Q S (tell m c w) t mem b =
 abbrev pub Holds : Post → Stand → Ending → Stand
 Holds Q S (ended o) = Q o
 Holds Q S spent = S
-
-pub or-more : (a b c : Bool) → (a || b) || c ≡ a || (b || c)
-or-more true b c = refl
-or-more false b c = refl
-
-pub or-none : (a : Bool) → a || false ≡ a
-or-none true = refl
-or-none false = refl
 
 -- what is safe holds over every line and budget
 pub lives : (Q : Post) (S : Stand) (w : Wire) (n : ℕ) (acts : List Act) (t : Target) (mem : List ℕ) (b : Bool) → Safe Q S w t mem b

@@ -9,27 +9,8 @@ use Rattle.target.specs.WellFormed.{WellFormed}
 use Rattle.target.specs.declared.Target.{Target}
 use Rattle.target.specs.declared.Act.{Act}
 use Rattle.session_rules.specs.Session.{closed}
-use Rattle.agreement.specs.Demand3.{
-  Told,
-  standingAfter,
-  openTold,
-  Item,
-  Bytes,
-  Buffers,
-  Moment,
-  first,
-  Made,
-  made,
-  history,
-  lastOf,
-  openNext,
-  openAfter,
-  MemoryKept,
-  Each,
-  none,
-  and,
-  InStep,
-}
+use Rattle.session_items.specs.History.{Item, Moment, first, made, history, lastOf}
+use Rattle.agreement.specs.Demand3.{Told, standingAfter, openTold, Buffers, openAfter, MemoryKept, Each, none, and, InStep}
 use Rattle.agreement.specs.Laws.Kept.{Kept}
 use Rattle.agreement.specs.Laws.Keep.{keeps}
 use Rattle.agreement.specs.Laws.Memory.{memory-kept}

@@ -6,6 +6,7 @@ use mathlib.Core.List.{List}
 use mathlib.Core.Path.{_≡_, refl, ap}
 use lib.Dec.{eqb}
 use borrow.Author.Tests.{ne-eqb}
+use Rattle.session_phase.specs.Laws.Phase.{or-none}
 use Rattle.wire.specs.Wire.{Wire, Memory}
 use Rattle.wire.specs.Transfer.{clearStickyErrors, afterAnswer, tries, transfer, raw, rawOutcome}
 use Rattle.wire.specs.declared.Call.{Call}
@@ -27,7 +28,7 @@ use Rattle.target.specs.declared.Act.{Act}
 use Rattle.target.specs.declared.Act.the-variants.{Deliver, Wait, Lose}
 use Rattle.session_phase.specs.Phase.{loss}
 use Rattle.agreement.specs.Demand3.{isTransfer}
-use Rattle.agreement.specs.Laws.Safe.{Stand, Post, Safe, or-none}
+use Rattle.agreement.specs.Laws.Safe.{Stand, Post, Safe}
 
 -- of the memory, the target and its memory
 abbrev pub Spot : Type 1

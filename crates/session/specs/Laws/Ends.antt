@@ -1,6 +1,6 @@
 -- How the session goes by the answer in numbers, and that it goes as by the tree. Serves the proofs only.
 use Prim.Native.Nat.{ℕ}
-use mathlib.Core.Bool.{Bool, true, false, _||_}
+use mathlib.Core.Bool.{Bool, _||_}
 use mathlib.Core.List.{List}
 use mathlib.Core.Path.{_≡_, refl, sym, ap, subst, _∙_}
 use lib.Dec.{eqb}
@@ -68,11 +68,6 @@ pub lost-in : (lost : Bool) (s : State) (ws b : List ℕ) (a : Answer) → s .st
 lost-in lost s ws b a h =
     ap (λ (l : Bool). lost || l) (lost-flight (s .started .launched .transfer .mode) _ (s .started .launched .transfer) _ a
     ∙ ap (λ (d : Status). lostBy (statusTree d (flightTree s ws b) (memoryOf (s .remembered) ws b)) a) (sym h))
-
--- an ended call loses nothing more
-pub none-lost : (lost : Bool) → lost ≡ (lost || false)
-none-lost true = refl
-none-lost false = refl
 
 pub answers-as : (kind kind₂ : Kind) (lost lost₂ : Bool) (before : List ℕ) (w : Wire) (s : Session) (r : Reply) (buf : List ℕ)
     → kind ≡ kind₂ → lost ≡ lost₂ → Answers kind lost before w s r buf → Answers kind₂ lost₂ before w s r buf

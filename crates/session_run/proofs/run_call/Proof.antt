@@ -4,10 +4,10 @@ use mathlib.Core.List.{List}
 use mathlib.Core.Path.{_≡_, refl, sym, ap, _∙_}
 use native.Mathlib.Omega.{arith}
 use lib.ListN.{length, drop}
+use Rattle.session_items.specs.Items.{actsOf}
 use Rattle.target.specs.declared.Target.{Target}
 use Rattle.session.specs.declared.Session.{Session}
 use Rattle.session_rules.specs.declared.SessionCall.{SessionCall}
-use Rattle.session_run.specs.Items.{actsOf}
 use Rattle.session_run.specs.Laws.Under.{Under, under-start, under-finish, under-spent}
 use Rattle.session_run.specs.Laws.Turn.{acts-more, under-turn}
 use borrow.Author.Needs.{needs}

@@ -1,12 +1,12 @@
 -- Each turn makes the call of one record, over its part of the bytes (`listing-more`). It ends with the records, or before one that
 -- names no call.
-use Prim.Native.Nat.{ℕ, _+_, _-_, _*_, _/_, _<_, _≤_, min}
+use Prim.Native.Nat.{ℕ, _+_, _-_, _/_, _<_, _≤_, min}
 use mathlib.Core.Path.{_≡_, refl, sym, ap, _∙_}
 use native.Mathlib.Omega.{arith}
 use lib.ListN.{length, drop}
-use Rattle.agreement.specs.Demand3.{history}
+use Rattle.session_items.specs.Items.{actsOf, itemsFrom}
+use Rattle.session_items.specs.History.{history}
 use Rattle.session_run.specs.Ran.{moment}
-use Rattle.session_run.specs.Items.{actsOf, itemsFrom}
 use Rattle.session_run.specs.Laws.Listing.{Listing, part-length, back-length, listing-start, listing-more, listing-stop, listing-end}
 use borrow.Author.Needs.{needs}
 use Rattle.session_run.proofs.run_list.Statement.{statement}

@@ -6,10 +6,10 @@ use native.Mathlib.Omega.{arith}
 use native.Mathlib.Numerals.{add-one}
 use lib.ListN.{length, take, drop, set, length-append}
 use lib.Seq.{sets, take-at, drop-at, length-take-le}
+use Rattle.session_run.specs.Ran.{codeOf, resultsOf, buffersAfter}
 use Rattle.session.specs.Step.{reported}
 use Rattle.target.specs.declared.Act.{Act}
-use Rattle.agreement.specs.Demand3.{Item, Moment, Made, made, history, lastOf}
-use Rattle.session_run.specs.Items.{codeOf, resultsOf, buffersAfter}
+use Rattle.session_items.specs.History.{Item, Moment, Made, made, history, lastOf}
 
 -- of the calls ms₀ i are made; the others, ms, start from x, and their buffers at `place`
 pub record Going (x₀ : Moment) (ms₀ : List Made) (bytes₀ results₀ : List ℕ) (i : ℕ) (x : Moment) (ms : List Made) (place : ℕ)

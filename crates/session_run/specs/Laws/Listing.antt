@@ -4,6 +4,7 @@ use mathlib.Core.List.{List, [], _∷_, _++_}
 use mathlib.Core.Path.{_≡_, refl, sym, ap, subst, _∙_}
 use native.Mathlib.Omega.{arith}
 use lib.ListN.{length, take, drop, set, length-take, length-drop, length-append, take-append-drop}
+use Rattle.session_items.specs.Items.{itemThen, itemsFrom}
 use Rattle.wire.specs.Laws.Numbers.{less}
 use Rattle.call.specs.Laws.Byte.{take-min, drop-min}
 use Rattle.target.specs.declared.Target.{Target}
@@ -12,13 +13,12 @@ use Rattle.session_rules.specs.Session.{Standing}
 use Rattle.session.specs.Step.{standing}
 use Rattle.session_rules.specs.declared.SessionCall.{SessionCall}
 use Rattle.session.specs.declared.Session.{Session}
-use Rattle.agreement.specs.Demand3.{Item, Moment, Made, made, history}
+use Rattle.session_items.specs.History.{Item, Moment, Made, made, history, item}
 use Rattle.session_items.specs.declared.Listed.the-variants.{Call, Nothing}
 use Rattle.session_run.specs.declared.CallRan.{CallRan}
 use Rattle.session_run.specs.declared.ListRan.{ListRan}
-use Rattle.session_run.specs.Ran.{moment, item, CallRuns}
+use Rattle.session_run.specs.Ran.{moment, CallRuns, codeOf, ListRuns}
 use Rattle.session_items.specs.Records.{ITEM, callAt, budgetAt, sizeAt}
-use Rattle.session_run.specs.Items.{itemThen, itemsFrom, codeOf, ListRuns}
 use Rattle.session_run.specs.Laws.List.{Going, going-start, going-more, left}
 
 -- what a list leaves whose last call was r

@@ -30,9 +30,9 @@ use Rattle.session_rules.specs.declared.Check.the-variants.{Pass, Refuse}
 use Rattle.session_phase.specs.declared.Kind.{Kind}
 use Rattle.session.specs.declared.Session.{Session}
 use Rattle.session.specs.declared.Reply.{Reply}
-use Rattle.agreement.specs.Demand3.{Moment, made, madeIf}
+use Rattle.session_items.specs.History.{Moment, made, madeIf, item}
 use Rattle.session_run.specs.declared.CallRan.{CallRan}
-use Rattle.session_run.specs.Ran.{moment, item, CallRuns}
+use Rattle.session_run.specs.Ran.{moment, CallRuns}
 use Rattle.session_run.specs.Laws.Walk.{Arrived}
 
 -- the step's rule for being open is the run's: a connect is told by its kind as by the call

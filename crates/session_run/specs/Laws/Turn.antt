@@ -5,6 +5,7 @@ use mathlib.Core.Path.{_≡_, refl, sym, ap, subst, _∙_}
 use native.Mathlib.Numerals.{add-one}
 use lib.ListN.{length, getD, drop, drop-of-length-le}
 use lib.Seq.{drop-cons}
+use Rattle.session_items.specs.Items.{actsOf}
 use Rattle.wire.specs.declared.Call.{Call}
 use Rattle.wire.specs.declared.Answer.{Answer}
 use Rattle.wire_numbers.specs.declared.CallEnding.{CallEnding}
@@ -22,7 +23,6 @@ use Rattle.session.specs.declared.Reply.{Reply}
 use Rattle.session.specs.declared.SessionAnswer.{SessionAnswer}
 use Rattle.session_run.specs.declared.Turned.{Turned}
 use Rattle.session_run.specs.declared.CallRan.{CallRan}
-use Rattle.session_run.specs.Items.{actsOf}
 use Rattle.session_run.specs.Laws.Under.{dueNow, Under, under-more}
 
 -- the acts from a place of their list on

@@ -38,8 +38,8 @@ use Rattle.session_phase.specs.declared.Phase.{Phase}
 use Rattle.session_phase.specs.declared.Phase.the-variants as P
 use Rattle.session.specs.declared.Session.{Session}
 use Rattle.session.specs.declared.Reply.{Reply}
-use Rattle.agreement.specs.Demand3.{made}
-use Rattle.session_run.specs.Ran.{item, CallRuns}
+use Rattle.session_items.specs.History.{made, item}
+use Rattle.session_run.specs.Ran.{CallRuns}
 use Rattle.session_run.specs.Laws.Ran.{x₀, tree, heard, passed, was-refused, running-frame, settles-done, settles-spent}
 use Rattle.session_run.specs.Laws.Walk.{Walked, walk-start, walk-more, walk-done, walk-spent, dueIn}
 

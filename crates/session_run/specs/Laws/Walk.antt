@@ -17,7 +17,7 @@ use Rattle.engine.specs.Laws.Step.{Waits}
 use Rattle.session_phase.specs.Phase.{loss}
 use Rattle.session_rules.specs.Session.{lostIn}
 use Rattle.session.specs.Step.{lostBy}
-use Rattle.agreement.specs.Laws.Safe.{or-more, or-none}
+use Rattle.session_phase.specs.Laws.Phase.{or-more, or-none}
 
 -- after i transport calls the tree w₀ is at w; `lost`: one of them was lost; k₀ and k are what was heard in all and what is still to come
 pub record Walked (i : ℕ) (lost : Bool) (w₀ : Wire) (k₀ : Talk) (w : Wire) (k : Talk) : Type 0 where

@@ -1,22 +1,20 @@
--- Demand 3 of every list that `run_list` runs on a fresh session: what its contract speaks of (`ListRuns`) is in step.
+-- Demand 3 of a list in lent numbers, as `session_run::run_list` runs it: what its contract speaks of (`ListRuns`), from a session that is
+-- closed, is in step.
 use Prim.Native.Nat.{ℕ, zero, suc, _+_}
 use mathlib.Core.List.{List, [], _∷_}
 use mathlib.Core.Path.{_≡_, sym, subst}
 use native.Mathlib.Omega.{arith}
 use lib.ListN.{take, drop}
 use Rattle.target.specs.WellFormed.{WellFormed}
-use Rattle.target.specs.declared.Target.{Target}
 use Rattle.session_rules.specs.Session.{Standing, closed}
-use Rattle.session.specs.Step.{standing}
-use Rattle.session.specs.declared.Session.{Session}
-use Rattle.agreement.specs.Demand3.{Item, Bytes, Buffers, Moment, history, InStep}
-use Rattle.agreement.specs.Laws.Rows.{bytes-drop}
-use Rattle.agreement.specs.Laws.Theorem.{demand3}
-use Rattle.session_run.specs.Ran.{moment}
 use Rattle.session_items.specs.Records.{ITEM, callAt, budgetAt, sizeAt}
-use Rattle.session_run.specs.Items.{itemThen, itemsFrom, itemsOf, actsOf}
+use Rattle.session_items.specs.History.{Item, Moment, history}
+use Rattle.session_items.specs.Items.{itemThen, itemsFrom, itemsOf, actsOf}
 use Rattle.session_items.specs.declared.Listed.{Listed}
 use Rattle.session_items.specs.declared.Listed.the-variants.{Call, Nothing}
+use Rattle.agreement.specs.Demand3.{Bytes, Buffers, InStep}
+use Rattle.agreement.specs.Laws.Rows.{bytes-drop}
+use Rattle.agreement.specs.Laws.Theorem.{demand3}
 
 bytes-take : (n : ℕ) (l : List ℕ) → Bytes l → Bytes (take n l)
 bytes-take zero l h i = omega arith
@@ -35,11 +33,11 @@ buffers-from (suc n) at ws bytes b =
     buffers-then (callAt ws at) (budgetAt ws at) (take (sizeAt ws at) bytes) (itemsFrom n (at + ITEM) ws (drop (sizeAt ws at) bytes))
     (bytes-take (sizeAt ws at) bytes b) (buffers-from n (at + ITEM) ws (drop (sizeAt ws at) bytes) (bytes-drop (sizeAt ws at) bytes b))
 
-pub list-in-step : (s : Session) (t : Target) (mem items acts bytes : List ℕ) → standing s ≡ closed → WellFormed t mem → Bytes bytes
-    → InStep (moment s t mem) (history (moment s t mem) (itemsOf items bytes) (actsOf acts))
-list-in-step s t mem items acts bytes e f b =
+pub list-in-step : (x : Moment) → x .standing ≡ closed → WellFormed (x .target) (x .mem) → (items acts bytes : List ℕ) → Bytes bytes
+    → InStep x (history x (itemsOf items bytes) (actsOf acts))
+list-in-step x e f items acts bytes b =
     subst (λ (z : Standing). InStep (from z) (history (from z) (itemsOf items bytes) (actsOf acts))) (sym e)
-    (demand3 t mem f (itemsOf items bytes) (buffers-from _ 0 items bytes b) (actsOf acts))
+    (demand3 (x .target) (x .mem) f (itemsOf items bytes) (buffers-from _ 0 items bytes b) (actsOf acts))
   where
     from : Standing → Moment
-    from z = record { standing = z; target = t; mem = mem }
+    from z = record { standing = z; target = x .target; mem = x .mem }
