@@ -2,10 +2,10 @@
 -- Registers of the debug port and of an access port (000: dp_read to ap_read, ensure_csw). A request has APnDP 1, RnW 2,
 -- A2 4 and A3 8. SELECT is written only where it differs from the one remembered, and remembered after its Ok only; so is CSW.
 use Prim.Native.Nat.{ℕ, _+_, _*_, _/_, _%_}
-use mathlib.Core.Bool.{true}
+use mathlib.Core.Bool.{true, cond}
 use lib.Dec.{eqb}
 use Rattle.wire.specs.declared.Remembered.{Remembered}
-use Rattle.wire_memap.specs.Action.{Action, _>>=_, _>>_, return, cond, transferring, remember}
+use Rattle.wire_memap.specs.Action.{Action, _>>=_, _>>_, return, transferring, remember}
 
 -- the debug port's registers
 abbrev pub DPIDR : ℕ

@@ -2,11 +2,12 @@
 -- Words of the target's memory (000: read_word to write_words). The words of a run stand in the memory's row: the last one
 -- at place `last`, the others before it.
 use Prim.Native.Nat.{ℕ, zero, suc, _-_, _/_, _%_, min}
+use mathlib.Core.Bool.{cond}
 use lib.Dec.{eqb}
 use lib.ListN.{set, getD}
 use Rattle.wire.specs.Wire.{Memory}
 use Rattle.wire.specs.declared.Outcome.the-variants.{Value}
-use Rattle.wire_memap.specs.Action.{Action, _>>=_, _>>_, return, cond, transferring}
+use Rattle.wire_memap.specs.Action.{Action, _>>=_, _>>_, return, transferring}
 use Rattle.wire_memap.specs.Ports.{RDBUFF, TAR, DRW, CSW-DEFAULT, dpRead, apAccess, apWrite, apRead, ensureCsw}
 
 abbrev pub readWord : ℕ → Action

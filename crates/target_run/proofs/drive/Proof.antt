@@ -2,11 +2,11 @@
 -- (`comes-done`), or where the budget is spent (`comes-spent`).
 use borrow.Author.Needs.{needs}
 use Prim.Native.Nat.{_-_}
+use mathlib.Core.Bool.{cond}
 use lib.ListN.{length}
 use mathlib.Core.Path.{_≡_, refl, sym, ap, _∙_}
 use native.Mathlib.Omega.{arith}
 use Rattle.wire.specs.Wire.{Wire}
-use Rattle.engine_calls.specs.Calls.{pick}
 use Rattle.target_run.specs.Talk.{Talk}
 use Rattle.target.specs.Line.{actOf}
 use Rattle.target_run.specs.Laws.Comes.{Comes, comes-start}
@@ -20,10 +20,10 @@ Inv-loop budget acts mem₀ row₀ words₀ buf₀ log₀ heard₀ last₀ i₀ 
     let own = last₀ .step .state .own in
     (length mem ≡ length mem₀) × (length words ≡ length words₀) × (length buf ≡ length buf₀) × (length log ≡ length log₀)
     × (length heard ≡ length heard₀)
-    × (last .step .state .own ≡ own) × (pick own row words ≡ pick own row₀ words₀)
-    × ((w : Wire) (k : Talk) → Comes w k budget acts 0 (last₀ .step .state) (last₀ .step .next) (last₀ .target) mem₀ (pick own words₀ row₀)
+    × (last .step .state .own ≡ own) × (cond own row words ≡ cond own row₀ words₀)
+    × ((w : Wire) (k : Talk) → Comes w k budget acts 0 (last₀ .step .state) (last₀ .step .next) (last₀ .target) mem₀ (cond own words₀ row₀)
     buf₀ log₀ log₀ heard₀ heard₀
-    → Comes w k budget acts i (last .step .state) (last .step .next) (last .target) mem (pick own words row) buf log₀ log heard₀ heard)
+    → Comes w k budget acts i (last .step .state) (last .step .next) (last .target) mem (cond own words row) buf log₀ log heard₀ heard)
 
 abbrev μ-loop : tie.MeasureT-loop
 μ-loop budget acts mem₀ row₀ words₀ buf₀ log₀ heard₀ last₀ i₀ mem row words buf log heard last i = budget - i

@@ -1,7 +1,7 @@
 -- The report of a run over target and line, from what is left of it when the call has ended or the budget is spent. Serves the
 -- proofs only.
 use Prim.Native.Nat.{ℕ, _-_, _≤_}
-use mathlib.Core.Bool.{Bool, true, false}
+use mathlib.Core.Bool.{Bool, true, false, cond}
 use mathlib.Core.List.{List, [], map}
 use mathlib.Core.Path.{_≡_, refl, sym, ap, subst, _∙_}
 use native.Mathlib.Omega.{arith}
@@ -13,7 +13,7 @@ use Rattle.wire_numbers.specs.Results.{endingOf}
 use Rattle.wire_numbers.specs.declared.CallEnding.{CallEnding}
 use Rattle.wire_numbers.specs.declared.TransportCall.{TransportCall}
 use Rattle.target.specs.declared.Target.{Target}
-use Rattle.engine_calls.specs.Calls.{lent, pick, frameFor, leave}
+use Rattle.engine_calls.specs.Calls.{lent, frameFor, leave}
 use Rattle.engine.specs.Laws.State.{flightTree}
 use Rattle.engine.specs.Step.{nextOf, memoryIn, Steps, Lent}
 use Rattle.engine_run.specs.Run.{Reports, RanAs}
@@ -45,9 +45,9 @@ pub record OverAs (w : Wire) (k : Talk) (x : TargetRan) (ws b l₀ l h₀ h mem 
 abbrev pub Drives : StepAnswer → ℕ → List ℕ → Target → List ℕ → List ℕ → List ℕ → List ℕ → List ℕ → List ℕ → TargetRan
     → List ℕ → List ℕ → List ℕ → List ℕ → List ℕ → List ℕ → Type 0
 Drives a budget xs t mem row words buf l h x mem₂ row₂ words₂ buf₂ l₂ h₂ =
-    (pick (a .state .own) row₂ words₂ ≡ pick (a .state .own) row words)
-    × ((w : Wire) → Steps w a (pick (a .state .own) words row) buf
-    → OverAs w (talk w budget (map actOf xs) t mem) x (pick (a .state .own) words₂ row₂) buf₂ l l₂ h h₂ mem₂)
+    (cond (a .state .own) row₂ words₂ ≡ cond (a .state .own) row words)
+    × ((w : Wire) → Steps w a (cond (a .state .own) words row) buf
+    → OverAs w (talk w budget (map actOf xs) t mem) x (cond (a .state .own) words₂ row₂) buf₂ l l₂ h h₂ mem₂)
 
 -- a run of which nothing is left
 nothing-left : (i : ℕ) (l₀ l h₀ h : List ℕ) (w : Wire) (k : Talk) (q : Played) (t : Target) (mem ws b : List ℕ) (r : Ran)
@@ -103,8 +103,8 @@ comes-spent w₀ k₀ budget xs i s n t mem ws buf l₀ l h₀ h c le mk y =
 
 -- a report over the words of the call's runs is one over what the caller lent
 over-lent : (c : EngineCall) (own : Bool) (f : Frame) (p : Played) (r : Ran) (row words words₀ row₀ frame₀ frame b l₀ l : List ℕ) → own ≡ lent c
-    → f ≡ frameFor c → pick own row words ≡ pick own row₀ words₀ → frame ≡ leave f (eqb (r .ending .number) 0) row frame₀
-    → Reports p r (pick own words row) b l₀ l → RanAs c p r frame₀ words₀ frame words b l₀ l
+    → f ≡ frameFor c → cond own row words ≡ cond own row₀ words₀ → frame ≡ leave f (eqb (r .ending .number) 0) row frame₀
+    → Reports p r (cond own words row) b l₀ l → RanAs c p r frame₀ words₀ frame words b l₀ l
 over-lent c true f p r row words words₀ row₀ frame₀ frame b l₀ l e g o k h =
     let ok : Bool = eqb (r .ending .number) 0 in
     subst (λ (z : List ℕ). RanAs c p r frame₀ words₀ z words b l₀ l)
@@ -121,8 +121,8 @@ pub call-over : (c : EngineCall) (f : Frame) (w : Wire) (a : StepAnswer) (budget
     → RanOver c w (talk w budget (map actOf xs) t mem₀) x frame₀ words₀ frame words buf l₀ l h₀ h mem
 call-over c f w a budget xs t x row₀ words₀ row₁ words₁ buf₁ row words frame₀ frame mem₀ mem buf l₀ l h₀ h g s d k =
     let own : Bool = a .state .own in
-    let st = subst (λ (z : Bool). Steps w a (pick z words₁ row₁) buf₁) (sym (s .whose)) (s .steps) in
-    let other = subst (λ (z : Bool). pick z row₁ words₁ ≡ pick z row₀ words₀) (sym (s .whose)) (s .other) in
+    let st = subst (λ (z : Bool). Steps w a (cond z words₁ row₁) buf₁) (sym (s .whose)) (s .steps) in
+    let other = subst (λ (z : Bool). cond z row₁ words₁ ≡ cond z row₀ words₀) (sym (s .whose)) (s .other) in
     let y = d .1 w st in
     record {
       ran = over-lent c own f _ (x .ran) row words words₀ row₀ frame₀ frame buf l₀ l (s .whose) g (d .0 ∙ other) k (y .ran);

@@ -1,7 +1,7 @@
 -- One turn of a run over target and line: what it does, and that it takes run and talk one transport call further.
 -- Serves the proofs only.
 use Prim.Native.Nat.{ℕ, _+_, _-_, _<_}
-use mathlib.Core.Bool.{Bool}
+use mathlib.Core.Bool.{Bool, cond}
 use mathlib.Core.List.{List}
 use mathlib.Core.Path.{_≡_, sym, ap, subst, _∙_}
 use lib.ListN.{getD, set}
@@ -14,7 +14,6 @@ use Rattle.target.specs.Line.{line, told, actOf}
 use Rattle.target.specs.declared.Target.{Target}
 use Rattle.target.specs.declared.Act.{Act}
 use Rattle.target.specs.declared.Delivered.{Delivered}
-use Rattle.engine_calls.specs.Calls.{pick}
 use Rattle.engine.specs.Laws.State.{flightTree, stateTree}
 use Rattle.engine.specs.Step.{Steps, Lent}
 use Rattle.engine.specs.declared.State.{State}
@@ -35,7 +34,7 @@ pub record Turns (s : State) (i : ℕ) (act : Act) (t : Target) (mem row words b
   pub calls : (log₂ ≡ set log i (codeOf (dueIn s))) × (callOf (codeOf (dueIn s)) ≡ dueIn s)
   pub answers : (heard₂ ≡ set heard i (answerCode (line t mem (dueIn s) act .answer)))
       × (answerOf (answerCode (line t mem (dueIn s) act .answer)) ≡ line t mem (dueIn s) act .answer)
-  pub step : Lent (s .own) (follow (stateTree s (pick (s .own) words row) buf) (line t mem (dueIn s) act .answer))
+  pub step : Lent (s .own) (follow (stateTree s (cond (s .own) words row) buf) (line t mem (dueIn s) act .answer))
       (x .step) row words row₂ words₂ buf₂
 
 -- what the functions that a turn calls ensure, put together
@@ -43,7 +42,7 @@ pub turns : (s : State) (i : ℕ) (act : Act) (t : Target) (mem row words buf lo
     (mem₂ row₂ words₂ buf₂ log₂ heard₂ : List ℕ)
     → c ≡ dueIn s → (log₂ ≡ set log i (codeOf c)) × (callOf (codeOf c) ≡ c) → (d ≡ told (line t mem c act)) × (mem₂ ≡ line t mem c act .mem)
     → (heard₂ ≡ set heard i (answerCode (d .answer))) × (answerOf (answerCode (d .answer)) ≡ d .answer)
-    → Lent (s .own) (follow (stateTree s (pick (s .own) words row) buf) (d .answer)) x row words row₂ words₂ buf₂
+    → Lent (s .own) (follow (stateTree s (cond (s .own) words row) buf) (d .answer)) x row words row₂ words₂ buf₂
     → Turns s i act t mem row words buf log heard (record { step = x; target = d .target }) mem₂ row₂ words₂ buf₂ log₂ heard₂
 turns s i act t mem row words buf log heard c d x mem₂ row₂ words₂ buf₂ log₂ heard₂ e n o h st =
     let a : d .answer ≡ line t mem (dueIn s) act .answer = ap (λ (z : Delivered). z .answer) (o .0) ∙ ap (λ (z : Call). line t mem z act .answer) e in
@@ -52,15 +51,15 @@ turns s i act t mem row words buf log heard c d x mem₂ row₂ words₂ buf₂ 
       memory = o .1 ∙ ap (λ (z : Call). line t mem z act .mem) e;
       calls = subst (λ (z : Call). (log₂ ≡ set log i (codeOf z)) × (callOf (codeOf z) ≡ z)) e n;
       answers = subst (λ (z : Answer). (heard₂ ≡ set heard i (answerCode z)) × (answerOf (answerCode z) ≡ z)) a h;
-      step = subst (λ (z : Answer). Lent (s .own) (follow (stateTree s (pick (s .own) words row) buf) z) x row words row₂ words₂ buf₂) a st;
+      step = subst (λ (z : Answer). Lent (s .own) (follow (stateTree s (cond (s .own) words row) buf) z) x row words row₂ words₂ buf₂) a st;
     }
 
 turned-step : (own : Bool) (s : State) (i : ℕ) (act : Act) (t : Target) (mem row words buf log heard : List ℕ) (x : Turned)
     (mem₂ row₂ words₂ buf₂ log₂ heard₂ : List ℕ)
     → s .own ≡ own → Turns s i act t mem row words buf log heard x mem₂ row₂ words₂ buf₂ log₂ heard₂
-    → Lent own (follow (stateTree s (pick own words row) buf) (line t mem (dueIn s) act .answer)) (x .step) row words row₂ words₂ buf₂
+    → Lent own (follow (stateTree s (cond own words row) buf) (line t mem (dueIn s) act .answer)) (x .step) row words row₂ words₂ buf₂
 turned-step own s i act t mem row words buf log heard x mem₂ row₂ words₂ buf₂ log₂ heard₂ e y =
-    subst (λ (z : Bool). Lent z (follow (stateTree s (pick z words row) buf) (line t mem (dueIn s) act .answer))
+    subst (λ (z : Bool). Lent z (follow (stateTree s (cond z words row) buf) (line t mem (dueIn s) act .answer))
     (x .step) row words row₂ words₂ buf₂) e (y .step)
 
 -- a turn, while a transport call is due and budget is left
@@ -69,18 +68,18 @@ pub comes-turn : (own : Bool) (w₀ : Wire) (k₀ : Talk) (budget : ℕ) (xs : L
     (c : TransportCall) (act : Act) (x : Turned) (mem₂ row₂ words₂ buf₂ l₂ h₂ : List ℕ) → i < budget → n ≡ N.Make c → act ≡ actOf (getD xs i 0)
     → s .own ≡ own
     → Turns s i act t mem row words buf l h x mem₂ row₂ words₂ buf₂ l₂ h₂
-    → Comes w₀ k₀ budget xs i s n t mem (pick own words row) buf l₀ l h₀ h
-    → Comes w₀ k₀ budget xs (i + 1) (x .step .state) (x .step .next) (x .target) mem₂ (pick own words₂ row₂) buf₂ l₀ l₂ h₀ h₂
+    → Comes w₀ k₀ budget xs i s n t mem (cond own words row) buf l₀ l h₀ h
+    → Comes w₀ k₀ budget xs (i + 1) (x .step .state) (x .step .next) (x .target) mem₂ (cond own words₂ row₂) buf₂ l₀ l₂ h₀ h₂
 comes-turn own w₀ k₀ budget xs i s n t mem row words buf l₀ l h₀ h c act x mem₂ row₂ words₂ buf₂ l₂ h₂ lt mk e o y z =
-    let w : Wire = flightTree s (pick own words row) buf in
+    let w : Wire = flightTree s (cond own words row) buf in
     let v : Wire = follow w (line t mem (dueIn s) act .answer) in
     let p : Played = play w₀ (k₀ .answers) in
-    let here : z .tree ≡ w = due-tree (z .tree) n c s (pick own words row) buf (z .next) mk (z .stands) in
-    let st = subst (λ (u : Wire). Steps (follow u (line t mem (dueIn s) act .answer)) (x .step) (pick own words₂ row₂) buf₂) (sym (z .stands) ∙ here)
+    let here : z .tree ≡ w = due-tree (z .tree) n c s (cond own words row) buf (z .next) mk (z .stands) in
+    let st = subst (λ (u : Wire). Steps (follow u (line t mem (dueIn s) act .answer)) (x .step) (cond own words₂ row₂) buf₂) (sym (z .stands) ∙ here)
     (turned-step own s i act t mem row words buf l h x mem₂ row₂ words₂ buf₂ l₂ h₂ o y .steps) in
     let begins = subst (λ (z : Wire). Led i l₀ l h₀ h p k₀ (play z (leftTalk z budget xs i t mem .answers)) (leftTalk z budget xs i t mem))
     here (z .led) in
-    let went = led-turn s (pick own words row) buf budget xs i t mem act l₀ l h₀ h p k₀ lt e (y .calls .1) (y .answers .1) begins in
+    let went = led-turn s (cond own words row) buf budget xs i t mem act l₀ l h₀ h p k₀ lt e (y .calls .1) (y .answers .1) begins in
     let inLog = subst (λ (z : List ℕ). Led (i + 1) l₀ z h₀ (set h i (answerCode (line t mem (dueIn s) act .answer))) p k₀
     (play v (leftTalk v budget xs (i + 1) (line t mem (dueIn s) act .target) (line t mem (dueIn s) act .mem) .answers))
     (leftTalk v budget xs (i + 1) (line t mem (dueIn s) act .target) (line t mem (dueIn s) act .mem))) (sym (y .calls .0)) went in
@@ -103,6 +102,6 @@ comes-turn own w₀ k₀ budget xs i s n t mem row words buf l₀ l h₀ h c act
 pub turned-other : (own : Bool) (s : State) (i : ℕ) (act : Act) (t : Target) (mem row words buf log heard : List ℕ) (x : Turned)
     (mem₂ row₂ words₂ buf₂ log₂ heard₂ : List ℕ)
     → s .own ≡ own → Turns s i act t mem row words buf log heard x mem₂ row₂ words₂ buf₂ log₂ heard₂
-    → (pick own row₂ words₂ ≡ pick own row words) × (x .step .state .own ≡ own)
+    → (cond own row₂ words₂ ≡ cond own row words) × (x .step .state .own ≡ own)
 turned-other own s i act t mem row words buf log heard x mem₂ row₂ words₂ buf₂ log₂ heard₂ e y =
     let st = turned-step own s i act t mem row words buf log heard x mem₂ row₂ words₂ buf₂ log₂ heard₂ e y in (st .other, st .whose)
