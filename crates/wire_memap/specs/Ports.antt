@@ -41,12 +41,25 @@ CSW-DEFAULT = 0x23000012
 abbrev pub a32 : ℕ → ℕ
 a32 addr = addr % 16 / 4 * 4
 
+-- the requests that read and write a register of the debug port, and of an access port
+abbrev pub dpReading : ℕ → ℕ
+dpReading addr = 2 + a32 addr
+
+abbrev pub dpWriting : ℕ → ℕ
+dpWriting addr = a32 addr
+
+abbrev pub apReading : ℕ → ℕ
+apReading addr = 3 + a32 addr
+
+abbrev pub apWriting : ℕ → ℕ
+apWriting addr = 1 + a32 addr
+
 abbrev pub dpRead : ℕ → Action
-dpRead addr = transferring (2 + a32 addr) 0
+dpRead addr = transferring (dpReading addr) 0
 
 abbrev pub dpWrite : ℕ → ℕ → Action
 dpWrite addr word = do
-  transferring (a32 addr) word
+  transferring (dpWriting addr) word
   return 0
 
 -- SELECT for the register at `addr` of the present access port
@@ -69,13 +82,13 @@ apAccess request addr word = do
 
 abbrev pub apWrite : ℕ → ℕ → Action
 apWrite addr word = do
-  apAccess (1 + a32 addr) addr word
+  apAccess (apWriting addr) addr word
   return 0
 
 -- a read is posted: its own answer is the read before, and RDBUFF has its value
 abbrev pub apRead : ℕ → Action
 apRead addr = do
-  apAccess (3 + a32 addr) addr 0
+  apAccess (apReading addr) addr 0
   dpRead RDBUFF
 
 abbrev pub cswKnown : Remembered → Remembered
