@@ -1,6 +1,6 @@
 -- Demand 3: what is claimed of every list of session calls over target and line (01: "The session").
 use Prim.Native.Nat.{ℕ, _+_, _-_, _<_}
-use mathlib.Core.Bool.{Bool, true, false, not, _&&_, _||_}
+use mathlib.Core.Bool.{Bool, true, false, not, _&&_, _||_, cond}
 use mathlib.Core.List.{List, [], _∷_}
 use mathlib.Core.Path.{_≡_}
 use lib.Dec.{eqb, leb, ltb}
@@ -14,7 +14,6 @@ use Rattle.wire.specs.declared.Answer.the-variants.{Good, SwdError, NotSupporte
 use Rattle.wire.specs.declared.Outcome.the-variants.{Value, Failed}
 use Rattle.wire.specs.declared.Remembered.{Remembered}
 use Rattle.wire_memap.specs.Ports.{CSW-DEFAULT}
-use Rattle.target.specs.Choice.{pick}
 use Rattle.target.specs.Memory.{byteAt}
 use Rattle.target.specs.declared.Target.{Target}
 use Rattle.target.specs.declared.Byte.{Byte}
@@ -92,7 +91,7 @@ pub record Reads (m : Made) (addr n : ℕ) (given : List ℕ) : Type 0 where
 
 -- the byte at a that `new` from `addr` on makes of an old one
 abbrev pub renewed : ℕ → List ℕ → ℕ → Byte → Byte
-renewed addr new a old = pick (among addr (length new) a) (B.Value (getD new (a - addr) 0)) old
+renewed addr new a old = cond (among addr (length new) a) (B.Value (getD new (a - addr) 0)) old
 
 -- a byte that exists, in the range, and is the new one now
 pub record New (m : Made) (addr : ℕ) (new : List ℕ) (a : ℕ) : Type 0 where

@@ -8,6 +8,7 @@ use lib.ListN.{set, drop}
 use lib.Seq.{sets}
 use Rattle.wire.specs.Wire.{Memory}
 use Rattle.wire.specs.declared.Remembered.{Remembered}
+use Rattle.wire_memap.specs.Action.{remembering}
 use Rattle.wire_memap.specs.Ports.{selected}
 use Rattle.call.specs.Bytes.{storeWords, storePart, loadWords, patchWord, fromPlace}
 use Rattle.call.specs.declared.Change.{Change}
@@ -26,53 +27,27 @@ abbrev pub setApsel : Bool → ℕ → Remembered → Remembered
 setApsel true a r = r
 setApsel false a r = record { select = r .select; csw = false; apsel = a }
 
-abbrev pub rememberedAfter : Change → Remembered → Remembered
-rememberedAfter C.Nothing r = r
-rememberedAfter C.New r = fresh
-rememberedAfter C.Forget r = forgotten r
-rememberedAfter C.SelectZero r = selected 0 r
-rememberedAfter (C.Apsel a) r = setApsel (eqb a (r .apsel)) a r
-rememberedAfter (C.StoreWords at n) r = r
-rememberedAfter (C.StorePart at skip count word) r = r
-rememberedAfter (C.LoadWords at n) r = r
-rememberedAfter (C.Patch at skip count word) r = r
-rememberedAfter (C.Put at word) r = r
-rememberedAfter (C.Registers r0 r1 r2 r3 sp lr pc) r = r
-
 -- the xPSR that a function starts with: its T bit alone (000: start_function)
 abbrev pub XPSR-THUMB : ℕ
 XPSR-THUMB = 0x01000000
 
-abbrev pub wordsAfter : Change → List ℕ → List ℕ → List ℕ
-wordsAfter C.Nothing ws b = ws
-wordsAfter C.New ws b = ws
-wordsAfter C.Forget ws b = ws
-wordsAfter C.SelectZero ws b = ws
-wordsAfter (C.Apsel a) ws b = ws
-wordsAfter (C.StoreWords at n) ws b = ws
-wordsAfter (C.StorePart at skip count word) ws b = ws
-wordsAfter (C.LoadWords at n) ws b = loadWords n (drop at b) ws
-wordsAfter (C.Patch at skip count word) ws b = set ws 0 (patchWord count word skip (drop at b))
-wordsAfter (C.Put at word) ws b = set ws at word
-wordsAfter (C.Registers r0 r1 r2 r3 sp lr pc) ws b = sets ws 8 (r0 ∷ r1 ∷ r2 ∷ r3 ∷ sp ∷ lr ∷ pc ∷ XPSR-THUMB ∷ [])
+-- one part anew, the others as they are; so is `remembering`
+abbrev pub wordsBecome : Memory → List ℕ → Memory
+wordsBecome m ws = record { remembered = m .remembered; words = ws; buf = m .buf }
 
-abbrev pub bufAfter : Change → List ℕ → List ℕ → List ℕ
-bufAfter C.Nothing ws b = b
-bufAfter C.New ws b = b
-bufAfter C.Forget ws b = b
-bufAfter C.SelectZero ws b = b
-bufAfter (C.Apsel a) ws b = b
-bufAfter (C.StoreWords at n) ws b = fromPlace at (storeWords n ws) b
-bufAfter (C.StorePart at skip count word) ws b = fromPlace at (storePart count word skip) b
-bufAfter (C.LoadWords at n) ws b = b
-bufAfter (C.Patch at skip count word) ws b = b
-bufAfter (C.Put at word) ws b = b
-bufAfter (C.Registers r0 r1 r2 r3 sp lr pc) ws b = b
+abbrev pub bufBecomes : Memory → List ℕ → Memory
+bufBecomes m b = record { remembered = m .remembered; words = m .words; buf = b }
 
 abbrev pub changed : Change → Memory → Memory
-changed c m = record {
-  remembered = rememberedAfter c (m .remembered);
-  words = wordsAfter c (m .words) (m .buf);
-  buf = bufAfter c (m .words)
-      (m .buf);
-}
+changed C.Nothing m = m
+changed C.New m = remembering m fresh
+changed C.Forget m = remembering m (forgotten (m .remembered))
+changed C.SelectZero m = remembering m (selected 0 (m .remembered))
+changed (C.Apsel a) m = remembering m (setApsel (eqb a (m .remembered .apsel)) a (m .remembered))
+changed (C.StoreWords at n) m = bufBecomes m (fromPlace at (storeWords n (m .words)) (m .buf))
+changed (C.StorePart at skip count word) m = bufBecomes m (fromPlace at (storePart count word skip) (m .buf))
+changed (C.LoadWords at n) m = wordsBecome m (loadWords n (drop at (m .buf)) (m .words))
+changed (C.Patch at skip count word) m = wordsBecome m (set (m .words) 0 (patchWord count word skip (drop at (m .buf))))
+changed (C.Put at word) m = wordsBecome m (set (m .words) at word)
+changed (C.Registers r0 r1 r2 r3 sp lr pc) m =
+    wordsBecome m (sets (m .words) 8 (r0 ∷ r1 ∷ r2 ∷ r3 ∷ sp ∷ lr ∷ pc ∷ XPSR-THUMB ∷ []))

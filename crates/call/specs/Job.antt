@@ -2,7 +2,6 @@
 -- Jobs chain in `do` blocks as the Rust's methods do: a value goes on to the next line, an error ends the call.
 -- Every call is of this one first-order language, so that a claim about all calls is one induction.
 use Prim.Native.Nat.{ℕ}
-use mathlib.Core.Bool.{Bool, true, false}
 use Rattle.wire.specs.Wire.{Wire, Memory, done}
 use Rattle.wire.specs.declared.Call.{Call}
 use Rattle.wire.specs.declared.ArmError.{ArmError}
@@ -52,10 +51,6 @@ _>>=_ j k = attempt j (orFail k)
 
 abbrev pub _>>_ : Job → Job → Job
 _>>_ j k = j >>= (λ (_ : ℕ). k)
-
-abbrev pub cond : Bool → Job → Job → Job
-cond true a b = a
-cond false a b = b
 
 -- the operations and the changes, by the names of the Rust's methods
 abbrev pub just : Op → Job

@@ -1,13 +1,13 @@
 -- Copyright 2026 Kenta Ida. SPDX-License-Identifier: Apache-2.0. Ported from arm-debug/src/lib.rs of ciniml/rust-dap.
 -- Connecting to a target (000: connect_multidrop to reselect, power_up to write_targetsel).
 use Prim.Native.Nat.{ℕ, zero, suc, _+_, _/_, _%_}
-use mathlib.Core.Bool.{Bool, _||_}
+use mathlib.Core.Bool.{Bool, _||_, cond}
 use lib.Dec.{eqb}
 use Rattle.wire.specs.declared.Call.the-variants as T
 use Rattle.wire.specs.declared.Pattern.the-variants as P
 use Rattle.wire.specs.declared.ArmError.the-variants as E
 use Rattle.wire_memap.specs.Ports.{DPIDR, ABORT, CTRL-STAT, SELECT}
-use Rattle.call.specs.Job.{Job, _>>=_, _>>_, return, fail, cond, keeping, dpRead, dpWrite, transport}
+use Rattle.call.specs.Job.{Job, _>>=_, _>>_, return, fail, keeping, dpRead, dpWrite, transport}
 use Rattle.call.specs.declared.Change.{Change}
 use Rattle.call.specs.declared.Change.the-variants as C
 use Rattle.call_connect.specs.declared.ConnectCall.{ConnectCall}

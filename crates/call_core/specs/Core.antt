@@ -1,8 +1,9 @@
 -- Copyright 2026 Kenta Ida. SPDX-License-Identifier: Apache-2.0. Ported from arm-debug/src/lib.rs of ciniml/rust-dap.
 -- The core's run state and its registers (000: debug_enable to write_core_reg).
 use Prim.Native.Nat.{ℕ, zero, suc, _+_}
+use mathlib.Core.Bool.{cond}
 use Rattle.wire.specs.declared.ArmError.the-variants as E
-use Rattle.call.specs.Job.{Job, _>>=_, _>>_, return, fail, cond, readWord, writeWord}
+use Rattle.call.specs.Job.{Job, _>>=_, _>>_, return, fail, readWord, writeWord}
 use Rattle.call_core.specs.Cortex.{
   DHCSR,
   DCRSR,

@@ -2,13 +2,14 @@
 -- The bootrom's table of functions, and a function called on the halted core (000: rom_func_lookup to finish_function).
 -- Registers pass through the row: a frame stands in its places 0 to 7, and what a function starts with in 8 to 15.
 use Prim.Native.Nat.{ℕ, zero, suc, _+_, _-_, _*_, _/_, _%_, _^_}
+use mathlib.Core.Bool.{cond}
 use mathlib.Core.List.{List, [], _∷_}
 use lib.Dec.{eqb}
 use lib.ListN.{getD}
 use Rattle.wire.specs.declared.ArmError.the-variants as E
 use Rattle.wire.specs.declared.Outcome.{Outcome}
 use Rattle.wire_memap.specs.declared.Op.the-variants as O
-use Rattle.call.specs.Job.{Job, ends, attempt, _>>=_, _>>_, return, fail, cond, just, keeping, readWord, writeWord}
+use Rattle.call.specs.Job.{Job, ends, attempt, _>>=_, _>>_, return, fail, just, keeping, readWord, writeWord}
 use Rattle.call.specs.declared.Change.the-variants as C
 use Rattle.call_core.specs.Cortex.{DHCSR, DCRDR, DBGKEY, C-DEBUGEN, C-HALT, C-MASKINTS, S-HALT, stands, R0, SP, LR, PC, XPSR}
 use Rattle.call_core.specs.Core.{debugEnable, waitStatus, halt, resume, step, isHalted, readCoreReg, storeCoreReg, writeCoreReg}

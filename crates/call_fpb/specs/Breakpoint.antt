@@ -1,9 +1,9 @@
 -- Copyright 2026 Kenta Ida. SPDX-License-Identifier: Apache-2.0. Ported from arm-debug/src/lib.rs of ciniml/rust-dap.
 -- Hardware breakpoints (000: fpb_num_comps to hw_breakpoint_at). Yes is 1 and no is 0.
 use Prim.Native.Nat.{ℕ, zero, suc, _+_, _-_, _*_, _/_, _%_}
-use mathlib.Core.Bool.{Bool, true, false}
+use mathlib.Core.Bool.{Bool, true, false, cond}
 use lib.Dec.{eqb, leb}
-use Rattle.call.specs.Job.{Job, _>>=_, _>>_, return, cond, readWord, writeWord}
+use Rattle.call.specs.Job.{Job, _>>=_, _>>_, return, readWord, writeWord}
 use Rattle.call_fpb.specs.Fpb as fpb
 use Rattle.call_fpb.specs.declared.CompValue.{CompValue}
 use Rattle.call_fpb.specs.declared.CompValue.the-variants as P

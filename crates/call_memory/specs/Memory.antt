@@ -1,12 +1,12 @@
 -- Copyright 2026 Kenta Ida. SPDX-License-Identifier: Apache-2.0. Ported from arm-debug/src/lib.rs of ciniml/rust-dap.
 -- Raw registers of an access port, words and memory (000: set_apsel to ap_reg_write, read_word to write_mem).
 use Prim.Native.Nat.{ℕ, zero, suc, _+_, _-_, _*_, _/_, _%_, min}
-use mathlib.Core.Bool.{Bool, true, false}
+use mathlib.Core.Bool.{Bool, true, false, cond}
 use lib.Dec.{eqb, leb}
 use Rattle.wire.specs.declared.ArmError.the-variants as E
 use Rattle.wire_memap.specs.Words.{tarRun}
 use Rattle.wire_memap.specs.declared.Op.the-variants as O
-use Rattle.call.specs.Job.{Job, _>>=_, _>>_, return, fail, cond, just, keeping, apRead, apWrite, readWord, writeWord}
+use Rattle.call.specs.Job.{Job, _>>=_, _>>_, return, fail, just, keeping, apRead, apWrite, readWord, writeWord}
 use Rattle.call.specs.declared.Change.the-variants as C
 use Rattle.call_memory.specs.declared.MemoryCall.{MemoryCall}
 use Rattle.call_memory.specs.declared.MemoryCall.the-variants as M

@@ -2,14 +2,14 @@
 -- Nordic chips: protection, mass erase and flash (000: nrf52_approtect_status to nrf54_program).
 -- A transfer that fails ends the call at its place, and APSEL stays as it was set.
 use Prim.Native.Nat.{ℕ, zero, suc, _+_, _-_, _*_, _%_}
-use mathlib.Core.Bool.{Bool, true, false}
+use mathlib.Core.Bool.{Bool, true, false, cond}
 use lib.Dec.{eqb, leb}
 use Rattle.wire.specs.declared.ArmError.the-variants as E
 use Rattle.wire.specs.declared.Outcome.{Outcome}
 use Rattle.wire.specs.declared.Outcome.the-variants.{Value, Failed}
 use Rattle.wire_memap.specs.Words.{tarRun}
 use Rattle.wire_memap.specs.declared.Op.the-variants as O
-use Rattle.call.specs.Job.{Job, ends, _>>=_, _>>_, return, fail, cond, just, keeping, apRead, apWrite, readWord, writeWord}
+use Rattle.call.specs.Job.{Job, ends, _>>=_, _>>_, return, fail, just, keeping, apRead, apWrite, readWord, writeWord}
 use Rattle.call.specs.declared.Change.the-variants as C
 use Rattle.call_nrf.specs.Nrf52 as nrf52
 use Rattle.call_nrf.specs.Nrf54 as nrf54

@@ -1,6 +1,6 @@
 -- What a step has to answer: the next transport call or the ending in numbers, the bytes handed over, and what stands by then.
 use Prim.Native.Nat.{ℕ}
-use mathlib.Core.Bool.{Bool}
+use mathlib.Core.Bool.{Bool, cond}
 use mathlib.Core.List.{List, []}
 use mathlib.Core.Path.{_≡_}
 use Rattle.wire.specs.Bytes.{handed, padded}
@@ -11,7 +11,6 @@ use Rattle.wire.specs.declared.Outcome.{Outcome}
 use Rattle.wire_numbers.specs.Results.{resultOf}
 use Rattle.wire_numbers.specs.Numbers.{numbersOf}
 use Rattle.wire_memap.specs.Laws.Doing.{rememberedOf}
-use Rattle.engine_calls.specs.Calls.{pick}
 use Rattle.engine.specs.Laws.State.{Status, Running, Ended, statusOf, ownOf, stateTree}
 use Rattle.engine.specs.declared.NextStep.{NextStep}
 use Rattle.engine.specs.declared.NextStep.the-variants as N
@@ -52,12 +51,12 @@ pub record Steps (w : Wire) (a : StepAnswer) (ws b : List ℕ) : Type 0 where
 
 -- The same over a row and the caller's words, of which `own` says which one the call runs over; the other is unchanged.
 pub record Lent (own : Bool) (w : Wire) (a : StepAnswer) (row₀ words₀ row words buf : List ℕ) : Type 0 where
-  pub steps : Steps w a (pick own words row) buf
-  pub other : pick own row words ≡ pick own row₀ words₀
+  pub steps : Steps w a (cond own words row) buf
+  pub other : cond own row words ≡ cond own row₀ words₀
   pub whose : ownOf (a .state .call) ≡ own
 
 -- A step from the state s. The tree of a call that has ended goes on as itself (`follow`): the same ending, no transport call, words
 -- and buffer as they were; and the state stays.
 pub record Stepped (s : State) (a : Answer) (x : StepAnswer) (row₀ words₀ buf₀ row words buf : List ℕ) : Type 0 where
-  pub lent : Lent (ownOf (s .call)) (follow (stateTree s (pick (ownOf (s .call)) words₀ row₀) buf₀) a) x row₀ words₀ row words buf
+  pub lent : Lent (ownOf (s .call)) (follow (stateTree s (cond (ownOf (s .call)) words₀ row₀) buf₀) a) x row₀ words₀ row words buf
   pub stays : (o : Outcome) → statusOf (s .call) ≡ Ended o → x .state ≡ s

@@ -1,6 +1,7 @@
 -- The engine's calls as jobs over what the caller lends.
 use Prim.Native.Nat.{ℕ}
-use mathlib.Core.Bool.{Bool, true, false}
+use mathlib.Core.Bool.{Bool, true, false, cond}
+pub use mathlib.Core.Bool.{cond as pick}
 use mathlib.Core.List.{List, [], _∷_}
 use lib.ListN.{length, getD, replicate}
 use lib.Seq.{sets}
@@ -58,13 +59,9 @@ lent (C.Core c) = false
 lent (C.Fpb c) = false
 lent (C.Nrf c) = lentFlash c
 
-abbrev pub pick : Bool → List ℕ → List ℕ → List ℕ
-pick true words row = words
-pick false words row = row
-
 -- the tree of transport calls of a call, from what is remembered, a row of 64, the caller's words and buffer
 abbrev pub callTree : EngineCall → Remembered → List ℕ → List ℕ → List ℕ → Wire
-callTree c r row words buf = exec (jobOf c (length words) (length buf)) (memoryOf r (pick (lent c) words row) buf)
+callTree c r row words buf = exec (jobOf c (length words) (length buf)) (memoryOf r (cond (lent c) words row) buf)
 
 -- A call that is run whole has a row of its own, and the caller lends eight words for a frame: call 24 finds it there, and call 23
 -- leaves it there.
@@ -102,7 +99,7 @@ rowWith F.Left frame = replicate 64 0
 abbrev pub leave : Frame → Bool → List ℕ → List ℕ → List ℕ
 leave F.Nowhere ok row frame = frame
 leave F.Found ok row frame = frame
-leave F.Left ok row frame = pick ok (frameOf row) frame
+leave F.Left ok row frame = cond ok (frameOf row) frame
 
 -- the row before the run of a call
 abbrev pub rowFor : EngineCall → List ℕ → List ℕ
@@ -110,7 +107,7 @@ rowFor c frame = rowWith (frameFor c) frame
 
 -- After a run that ended with e and left ws in what it runs over: the caller's words and his frame, from what they were before.
 abbrev pub wordsLeft : EngineCall → List ℕ → List ℕ → List ℕ
-wordsLeft c ws words₀ = pick (lent c) ws words₀
+wordsLeft c ws words₀ = cond (lent c) ws words₀
 
 abbrev pub frameLeft : EngineCall → Ending → List ℕ → List ℕ → List ℕ
 frameLeft c e ws frame₀ = leave (frameFor c) (succeeds e) ws frame₀

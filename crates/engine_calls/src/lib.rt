@@ -1,5 +1,6 @@
 // One enum of all 35 calls. What a call asks for first and after each operation, over the groups; which words it runs over,
 // and where its frame is.
+ghost use mathlib.Core.Bool.{cond};
 ghost use mathlib.Core.Path.{_≡_};
 ghost use lib.ListN.{replicate};
 ghost use lib.Seq.{sets};
@@ -9,7 +10,7 @@ ghost use Rattle.call_memory.specs.Laws.After.{memoryAfter};
 ghost use Rattle.call_core.specs.Laws.After.{coreAfter};
 ghost use Rattle.call_fpb.specs.Laws.After.{fpbAfter};
 ghost use Rattle.call_nrf.specs.Laws.After.{nrfAfter};
-ghost use Rattle.engine_calls.specs.Calls.{jobOf, lentWords, lentFlash, lent, pick, frameOf, coreFrame, frameFor, rowWith, leave};
+ghost use Rattle.engine_calls.specs.Calls.{jobOf, lentWords, lentFlash, lent, frameOf, coreFrame, frameFor, rowWith, leave};
 ghost use Rattle.engine_calls.specs.Laws.After.{callAfter, asksJob};
 use call::Change;
 use call::Next;
@@ -271,7 +272,7 @@ fn frame_of(row: [u32; 64]) -> [u32; 8]
 
 // A call that failed hands no frame over.
 fn handed_over(ok: bool, left: [u32; 8], before: [u32; 8]) -> [u32; 8]
-    ensures { λ r. ⌜ r ≡ pick ok left before ⌝ }
+    ensures { λ r. ⌜ r ≡ cond ok left before ⌝ }
 {
     if ok {
         return left;

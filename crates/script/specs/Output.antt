@@ -9,7 +9,7 @@ use Rattle.wire_numbers.specs.Results.{endingOf}
 use Rattle.wire_numbers.specs.declared.CallEnding.{CallEnding}
 use Rattle.call.specs.Change.{fresh}
 use Rattle.engine_calls.specs.declared.EngineCall.{EngineCall}
-use Rattle.engine_calls.specs.Calls.{pick, callTree, rowFor, frameOf, wordsLeft, frameLeft}
+use Rattle.engine_calls.specs.Calls.{callTree, rowFor, frameOf, wordsLeft, frameLeft}
 use Rattle.engine_run.specs.Run.{within}
 use Rattle.script_lines.specs.declared.Shown.{Shown}
 use Rattle.script_lines.specs.declared.Shown.the-variants as S
@@ -46,7 +46,7 @@ isFrame B.Frame = true
 -- the words shown: the frame, or the words that the call was lent, as the run p of the call c leaves them
 abbrev pub wordsShown : EngineCall → Buffer → List ℕ → Played → List ℕ
 wordsShown c b words p =
-    pick (isFrame b) (frameLeft c (p .ending) (p .memory .words) (frameOf words)) (wordsLeft c (p .memory .words) words)
+    cond (isFrame b) (frameLeft c (p .ending) (p .memory .words) (frameOf words)) (wordsLeft c (p .memory .words) words)
 
 -- the run p of a call that was lent these words
 abbrev pub runText : EngineCall → Buffer → List ℕ → Played → List ℕ

@@ -1,12 +1,12 @@
 // A script: a call for a new engine and the answers of its transport calls in, the listing of what the call did out.
 ghost use mathlib.Core.Path.{_≡_};
-ghost use mathlib.Core.Bool.{true};
+ghost use mathlib.Core.Bool.{true, cond};
 ghost use Prim.Native.Nat.{_+_, _-_, _*_, _^_, _≤_, _<_};
 ghost use lib.ListN.{length, drop};
 ghost use lib.Seq.{sets};
 ghost use Rattle.script_request.specs.BigEndian.{word as Number·word, row};
 ghost use Rattle.script_request.specs.Request.{wordsOf, bytesOf};
-ghost use Rattle.engine_calls.specs.Calls.{pick, frameOf};
+ghost use Rattle.engine_calls.specs.Calls.{frameOf};
 ghost use Rattle.script_lines.specs.Listing.{runLines};
 ghost use Rattle.script_lines.specs.Laws.Puts.{Puts};
 ghost use Rattle.script.specs.Script.{callEnd, answerCount, goodAnswer, goodAnswers, answerAt, wellFormed};
@@ -220,7 +220,7 @@ fn put_performed(
     buf: &[u8],
 ) -> usize
     requires { ⌜ (length (now log) ≤ 9361) × (length (now frame) ≡ 8) × (length (now words) < 65536) × (length (now buf) < 65536) ⌝ }
-    ensures { λ r. ⌜ Puts (now (out .entry)) 0 (runLines (now (log .entry)) e (shownOf e b) (pick (isFrame b) (now (frame .entry)) (now (words .entry))) (now (buf .entry))) (now (out .exit)) r × (r ≤ 1114112) ⌝ }
+    ensures { λ r. ⌜ Puts (now (out .entry)) 0 (runLines (now (log .entry)) e (shownOf e b) (cond (isFrame b) (now (frame .entry)) (now (words .entry))) (now (buf .entry))) (now (out .exit)) r × (r ≤ 1114112) ⌝ }
 {
     let s = shown_of(e, b);
     if is_frame(b) {

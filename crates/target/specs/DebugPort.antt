@@ -1,13 +1,12 @@
 -- The debug port's registers ABORT, CTRL/STAT, DPIDR, RDBUFF and SELECT (01: "The model target"; ADIv5.2, chapter B2; readings 20 to
 -- 22 and 24). `owed` counts the reads of CTRL/STAT that do not show the acks yet; it matters only while both requests stand.
-use mathlib.Core.Bool.{Bool, true, false, _&&_}
-use Prim.Native.Nat.{ℕ, _+_, _-_}
+use mathlib.Core.Bool.{Bool, true, false, _&&_, cond}
+use Prim.Native.Nat.{ℕ, _+_, _-_, _/_, _%_}
 use lib.Dec.{eqb}
 use Rattle.target.specs.declared.Target.{Target}
 use Rattle.target.specs.declared.Done.{Done}
 use Rattle.target.specs.declared.DpRegister.{DpRegister}
 use Rattle.target.specs.declared.DpRegister.the-variants as D
-use Rattle.target.specs.Choice.{pick, has}
 use Rattle.target.specs.Fields.{withSelect, withRequests, withOwed, withSticky}
 
 -- an access that was done: the value answered, 0 for a write, and the target after it
@@ -30,6 +29,10 @@ STICKYERR = 0x20
 abbrev pub STKERRCLR : ℕ
 STKERRCLR = 4
 
+-- whether a word has the bit whose value is `bit`, as 4 for bit 2
+abbrev pub has : ℕ → ℕ → Bool
+has bit w = eqb (w / bit % 2) 1
+
 -- whether both power-up requests stand
 abbrev pub powered : Target → Bool
 powered t = t .cdbgpwrupreq && t .csyspwrupreq
@@ -41,18 +44,18 @@ acked t = powered t && eqb (t .owed) 0
 -- what CTRL/STAT reads as
 abbrev pub ctrlStat : Target → ℕ
 ctrlStat t =
-    pick (t .cdbgpwrupreq) CDBGPWRUPREQ 0 + pick (t .csyspwrupreq) CSYSPWRUPREQ 0 + pick (acked t) ACKS 0 + pick (t .sticky) STICKYERR 0
+    cond (t .cdbgpwrupreq) CDBGPWRUPREQ 0 + cond (t .csyspwrupreq) CSYSPWRUPREQ 0 + cond (acked t) ACKS 0 + cond (t .sticky) STICKYERR 0
 
 -- the reads owed after a write of CTRL/STAT: d where it makes both requests 1 when they were not
 abbrev pub owedAfter : Target → ℕ → ℕ
-owedAfter t w = pick (powered t) (t .owed) (pick (has CDBGPWRUPREQ w && has CSYSPWRUPREQ w) (t .d) (t .owed))
+owedAfter t w = cond (powered t) (t .owed) (cond (has CDBGPWRUPREQ w && has CSYSPWRUPREQ w) (t .d) (t .owed))
 
 -- the target after a write of CTRL/STAT, which keeps the two requests
 abbrev pub requests : Target → ℕ → Target
 requests t w = withRequests t (has CDBGPWRUPREQ w) (has CSYSPWRUPREQ w) (owedAfter t w)
 
 abbrev pub reachDp : DpRegister → Target → ℕ → Done
-reachDp D.AbortWrite t w = done 0 (withSticky t (pick (has STKERRCLR w) false (t .sticky)))
+reachDp D.AbortWrite t w = done 0 (withSticky t (cond (has STKERRCLR w) false (t .sticky)))
 reachDp D.DpidrRead t w = done (t .dpidr) t
 reachDp D.CtrlStatWrite t w = done 0 (requests t w)
 reachDp D.CtrlStatRead t w = done (ctrlStat t) (withOwed t (t .owed - 1))

@@ -3,17 +3,17 @@
 -- port. An access port looks at APSEL, bits 31:24 of SELECT, and APBANKSEL, bits 7:4; the memory is behind AP 0, bank 0.
 use mathlib.Core.List.{List, [], _∷_}
 use Prim.Native.Nat.{ℕ, _+_, _*_, _/_, _%_}
+use mathlib.Core.Bool.{cond}
 use lib.ListN.{getD}
 use lib.Dec.{eqb}
 use Rattle.target.specs.declared.Register.{Register}
 use Rattle.target.specs.declared.Register.the-variants.{Dp, Ap}
 use Rattle.target.specs.declared.DpRegister.the-variants as D
 use Rattle.target.specs.declared.ApRegister.the-variants as A
-use Rattle.target.specs.Choice.{pick}
 
 -- the bank that SELECT names: DPBANKSEL for the debug port, APSEL and APBANKSEL as one number for an access port
 abbrev pub bankOf : ℕ → ℕ → ℕ
-bankOf request select = pick (eqb (request % 2) 0) (select % 16) (select / 0x1000000 * 16 + select / 16 % 16)
+bankOf request select = cond (eqb (request % 2) 0) (select % 16) (select / 0x1000000 * 16 + select / 16 % 16)
 
 -- what a request reaches: one register at every bank, or one at bank 0 and another at every other
 pub data Row : Type 0 where
@@ -36,7 +36,7 @@ rows =
 
 abbrev pub atBank : Row → ℕ → Register
 atBank (everywhere r) bank = r
-atBank (banked r s) bank = pick (eqb bank 0) r s
+atBank (banked r s) bank = cond (eqb bank 0) r s
 
 abbrev pub rowOf : ℕ → Row
 rowOf request = getD rows (request % 16) (everywhere (Dp D.OtherRead))

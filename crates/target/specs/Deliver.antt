@@ -1,6 +1,6 @@
 -- What a target makes of a transport call that reaches it (01: "The model target"; ADIv5.2, chapters B1 and B4; readings 18 and 24).
 -- A reply is a value or FAULT, so that a target never answers WAIT. A call that is no transfer reaches no register and is answered Ok 0.
-use mathlib.Core.Bool.{Bool, true, false, not, _&&_}
+use mathlib.Core.Bool.{Bool, true, false, not, _&&_, cond}
 use mathlib.Core.List.{List}
 use Prim.Native.Nat.{ℕ}
 use Rattle.wire.specs.declared.Call.{Call}
@@ -14,7 +14,6 @@ use Rattle.target.specs.declared.Register.{Register}
 use Rattle.target.specs.declared.Register.the-variants.{Dp, Ap}
 use Rattle.target.specs.declared.DpRegister.{DpRegister}
 use Rattle.target.specs.declared.DpRegister.the-variants as D
-use Rattle.target.specs.Choice.{pick}
 use Rattle.target.specs.Decode.{registerOf}
 use Rattle.target.specs.DebugPort.{reachDp}
 use Rattle.target.specs.MemAp.{reachAp, memoryAfter}
@@ -62,7 +61,7 @@ barred r sticky = sticky && not (exempt r)
 
 -- an access to a register: FAULT, and nothing is done, where it is refused
 abbrev pub access : Register → Target → List ℕ → ℕ → Delivery
-access r t m w = pick (barred r (t .sticky)) (record { reply = fault; target = t; mem = m }) (reach r t m w)
+access r t m w = cond (barred r (t .sticky)) (record { reply = fault; target = t; mem = m }) (reach r t m w)
 
 unfoldable pub transfer : Target → List ℕ → ℕ → ℕ → Delivery
 transfer t m request w = access (registerOf request (t .select)) t m w

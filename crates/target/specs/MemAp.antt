@@ -1,6 +1,6 @@
 -- The MEM-AP's registers CSW, TAR and DRW (01: "The model target"; 02, c; ADIv5.2, chapter C2; readings 17, 19, 24, 25, 31 and C1). A
 -- read is posted: it answers the old read buffer and loads the new value.
-use mathlib.Core.Bool.{Bool, true}
+use mathlib.Core.Bool.{Bool, true, cond}
 use mathlib.Core.List.{List}
 use Prim.Native.Nat.{ℕ, _+_, _*_, _/_, _%_, _^_, min}
 use lib.Dec.{eqb}
@@ -8,7 +8,6 @@ use Rattle.target.specs.declared.Target.{Target}
 use Rattle.target.specs.declared.Done.{Done}
 use Rattle.target.specs.declared.ApRegister.{ApRegister}
 use Rattle.target.specs.declared.ApRegister.the-variants as A
-use Rattle.target.specs.Choice.{pick}
 use Rattle.target.specs.Fields.{withSticky, withRdbuff, withCsw, withTar}
 use Rattle.target.specs.Memory.{inMemory, load, stored}
 use Rattle.target.specs.DebugPort.{done}
@@ -27,7 +26,7 @@ span t = 2 ^ min (t .width) 32
 
 -- TAR after an access: its low bits gain 4 where CSW's AddrInc, bits 5:4, is 1, and nothing is carried out of them
 abbrev pub nextTar : Target → ℕ
-nextTar t = pick (eqb (t .csw / 16 % 4) 1) (t .tar / span t * span t + (t .tar % span t + 4) % span t) (t .tar)
+nextTar t = cond (eqb (t .csw / 16 % 4) 1) (t .tar / span t * span t + (t .tar % span t + 4) % span t) (t .tar)
 
 abbrev pub advanced : Target → Target
 advanced t = withTar t (nextTar t)
@@ -45,9 +44,9 @@ reachAp A.CswWrite t m w = done 0 (withCsw t (cswKept w))
 reachAp A.CswRead t m w = posted t (t .csw)
 reachAp A.TarWrite t m w = done 0 (withTar t w)
 reachAp A.TarRead t m w = posted t (t .tar)
-reachAp A.DrwWrite t m w = done 0 (pick (inMemory t m (wordAddress t)) (advanced t) (failed t))
+reachAp A.DrwWrite t m w = done 0 (cond (inMemory t m (wordAddress t)) (advanced t) (failed t))
 reachAp A.DrwRead t m w =
-    pick (inMemory t m (wordAddress t)) (posted (advanced t) (load t m (wordAddress t))) (posted (failed t) 0)
+    cond (inMemory t m (wordAddress t)) (posted (advanced t) (load t m (wordAddress t))) (posted (failed t) 0)
 reachAp A.OtherRead t m w = posted t 0
 reachAp A.OtherWrite t m w = done 0 t
 

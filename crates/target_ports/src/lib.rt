@@ -1,9 +1,8 @@
 // Accesses to the registers of the model target: the debug port's, and the MEM-AP's over lent memory.
 ghost use mathlib.Core.Path.{_≡_};
-ghost use mathlib.Core.Bool.{Bool, true, false};
+ghost use mathlib.Core.Bool.{Bool, true, false, cond};
 ghost use Prim.Native.Nat.{_+_, _-_, _*_, _/_, _%_, _^_, min, _≤_, _<_};
-ghost use Rattle.target.specs.Choice.{pick, has};
-ghost use Rattle.target.specs.DebugPort.{STKERRCLR, done, powered, acked, ctrlStat, requests, reachDp};
+ghost use Rattle.target.specs.DebugPort.{STKERRCLR, done, has, powered, acked, ctrlStat, requests, reachDp};
 ghost use Rattle.target.specs.MemAp.{advanced, failed, posted, reachAp, memoryAfter};
 use target::ApRegister;
 use target::Done;
@@ -23,7 +22,7 @@ const STKERRCLR: u32 = 4;
 
 // A bit of a word, or 0.
 fn bit_if(on: bool, bit: u32) -> u32
-    ensures { λ r. ⌜ (r ≡ pick on bit 0) × (r ≤ bit) ⌝ }
+    ensures { λ r. ⌜ (r ≡ cond on bit 0) × (r ≤ bit) ⌝ }
 {
     if on {
         return bit;
@@ -90,7 +89,7 @@ fn less(n: u32) -> u32
 
 // Sticky after a write of ABORT.
 fn cleared(sticky: bool, word: u32) -> bool
-    ensures { λ r. ⌜ r ≡ pick (has STKERRCLR word) false sticky ⌝ }
+    ensures { λ r. ⌜ r ≡ cond (has STKERRCLR word) false sticky ⌝ }
 {
     if word / STKERRCLR % 2 == 1 {
         return false;

@@ -1,7 +1,7 @@
 -- Actions: what an engine does before it goes on. An action is given what follows it, so that actions chain in `do` blocks;
 -- a value goes on to the next line, an error ends the action, as the Rust's `?` does.
 use Prim.Native.Nat.{ℕ}
-use mathlib.Core.Bool.{Bool, true, false}
+pub use mathlib.Core.Bool.{cond}
 use Rattle.wire.specs.Wire.{Wire, Memory}
 use Rattle.wire.specs.Transfer.{transfer}
 use Rattle.wire.specs.declared.Remembered.{Remembered}
@@ -28,10 +28,6 @@ _>>_ p q k m = p (onValue (λ (_ : ℕ). q) k) m
 
 abbrev pub return : ℕ → Action
 return v k m = k m (Value v)
-
-abbrev pub cond : Bool → Action → Action → Action
-cond true p q = p
-cond false p q = q
 
 -- one transfer, at most 65 tries
 abbrev pub transferring : ℕ → ℕ → Action

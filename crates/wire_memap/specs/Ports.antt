@@ -2,10 +2,10 @@
 -- Registers of the debug port and of an access port (000: dp_read to ap_read, ensure_csw). A request has APnDP 1, RnW 2,
 -- A2 4 and A3 8. SELECT is written only where it differs from the one remembered, and remembered after its Ok only; so is CSW.
 use Prim.Native.Nat.{ℕ, _+_, _*_, _/_, _%_}
-use mathlib.Core.Bool.{true}
+use mathlib.Core.Bool.{true, cond}
 use lib.Dec.{eqb}
 use Rattle.wire.specs.declared.Remembered.{Remembered}
-use Rattle.wire_memap.specs.Action.{Action, _>>=_, _>>_, return, cond, transferring, remember}
+use Rattle.wire_memap.specs.Action.{Action, _>>=_, _>>_, return, transferring, remember}
 
 -- the debug port's registers
 abbrev pub DPIDR : ℕ
@@ -41,12 +41,25 @@ CSW-DEFAULT = 0x23000012
 abbrev pub a32 : ℕ → ℕ
 a32 addr = addr % 16 / 4 * 4
 
+-- the requests that read and write a register of the debug port, and of an access port
+abbrev pub dpReading : ℕ → ℕ
+dpReading addr = 2 + a32 addr
+
+abbrev pub dpWriting : ℕ → ℕ
+dpWriting addr = a32 addr
+
+abbrev pub apReading : ℕ → ℕ
+apReading addr = 3 + a32 addr
+
+abbrev pub apWriting : ℕ → ℕ
+apWriting addr = 1 + a32 addr
+
 abbrev pub dpRead : ℕ → Action
-dpRead addr = transferring (2 + a32 addr) 0
+dpRead addr = transferring (dpReading addr) 0
 
 abbrev pub dpWrite : ℕ → ℕ → Action
 dpWrite addr word = do
-  transferring (a32 addr) word
+  transferring (dpWriting addr) word
   return 0
 
 -- SELECT for the register at `addr` of the present access port
@@ -69,13 +82,13 @@ apAccess request addr word = do
 
 abbrev pub apWrite : ℕ → ℕ → Action
 apWrite addr word = do
-  apAccess (1 + a32 addr) addr word
+  apAccess (apWriting addr) addr word
   return 0
 
 -- a read is posted: its own answer is the read before, and RDBUFF has its value
 abbrev pub apRead : ℕ → Action
 apRead addr = do
-  apAccess (3 + a32 addr) addr 0
+  apAccess (apReading addr) addr 0
   dpRead RDBUFF
 
 abbrev pub cswKnown : Remembered → Remembered

@@ -2,12 +2,13 @@
 -- Words of the target's memory (000: read_word to write_words). The words of a run stand in the memory's row: the last one
 -- at place `last`, the others before it.
 use Prim.Native.Nat.{ℕ, zero, suc, _-_, _/_, _%_, min}
+use mathlib.Core.Bool.{cond}
 use lib.Dec.{eqb}
 use lib.ListN.{set, getD}
 use Rattle.wire.specs.Wire.{Memory}
 use Rattle.wire.specs.declared.Outcome.the-variants.{Value}
-use Rattle.wire_memap.specs.Action.{Action, _>>=_, _>>_, return, cond, transferring}
-use Rattle.wire_memap.specs.Ports.{RDBUFF, TAR, DRW, CSW-DEFAULT, dpRead, apAccess, apWrite, apRead, ensureCsw}
+use Rattle.wire_memap.specs.Action.{Action, _>>=_, _>>_, return, transferring}
+use Rattle.wire_memap.specs.Ports.{RDBUFF, TAR, DRW, CSW-DEFAULT, apReading, apWriting, dpRead, apAccess, apWrite, apRead, ensureCsw}
 
 abbrev pub readWord : ℕ → Action
 readWord addr = do
@@ -45,7 +46,7 @@ pull last zero = do
   v ← dpRead RDBUFF
   place last v
 pull last (suc more) = do
-  v ← transferring 0xF 0
+  v ← transferring (apReading DRW) 0
   place (last - suc more) v
   pull last more
 
@@ -54,7 +55,7 @@ readWords addr n last = do
   ensureCsw CSW-DEFAULT
   apWrite TAR addr
   cond (eqb n 0) (return 0) (do
-    apAccess 0xF DRW 0
+    apAccess (apReading DRW) DRW 0
     pull last (n - 1))
 
 -- the word at place i of the row; a place outside reads 0
@@ -65,13 +66,13 @@ rowAt i m = getD (m .words) i 0
 unfoldable pub push : ℕ → ℕ → Action
 push last zero k m = flush k m
 push last (suc more) k m = (do
-  transferring 0xD (rowAt (last - more) m)
+  transferring (apWriting DRW) (rowAt (last - more) m)
   push last more) k m
 
 -- the first of n words, n at least 1, behind SELECT where that is due, and the others
 abbrev pub pushAll : ℕ → ℕ → Action
 pushAll last n k m = (do
-  apAccess 0xD DRW (rowAt (last - (n - 1)) m)
+  apAccess (apWriting DRW) DRW (rowAt (last - (n - 1)) m)
   push last (n - 1)) k m
 
 abbrev pub writeWords : ℕ → ℕ → ℕ → Action

@@ -1,6 +1,6 @@
 -- Answers and transport calls as numbers of 64 bits, for lists that are lent.
 use Prim.Native.Nat.{ℕ, _+_, _*_, _/_, _%_}
-use mathlib.Core.Bool.{Bool, true, false}
+use mathlib.Core.Bool.{cond}
 use lib.Dec.{eqb}
 use Rattle.wire.specs.declared.Answer.{Answer}
 use Rattle.wire.specs.declared.Answer.the-variants as A
@@ -9,17 +9,13 @@ use Rattle.wire.specs.declared.Pattern.the-variants as P
 use Rattle.wire.specs.declared.Call.{Call}
 use Rattle.wire.specs.declared.Call.the-variants as C
 
-abbrev pub pickAnswer : Bool → Answer → Answer → Answer
-pickAnswer true a b = a
-pickAnswer false a b = b
-
 -- an answer: 01's code (0 Ok, 1 SwdError, 2 NotSupported, 3 or more other) times 2^32, and the value; an ack is a byte: of SwdError's
 -- value the lowest 8 bits count
 abbrev pub answerOf : ℕ → Answer
 answerOf x =
-    pickAnswer (eqb (x / 0x100000000) 0) (A.Good (x % 0x100000000))
-    (pickAnswer (eqb (x / 0x100000000) 1) (A.SwdError (x % 256))
-    (pickAnswer (eqb (x / 0x100000000) 2) A.NotSupported A.Other))
+    cond (eqb (x / 0x100000000) 0) (A.Good (x % 0x100000000))
+    (cond (eqb (x / 0x100000000) 1) (A.SwdError (x % 256))
+    (cond (eqb (x / 0x100000000) 2) A.NotSupported A.Other))
 
 abbrev pub patternNo : Pattern → ℕ
 patternNo P.ResetHigh = 0
@@ -40,26 +36,18 @@ codeOf (C.Pins output select wait) = 0x3000000000000 + (output * 0x10000000000 +
 codeOf (C.WriteBits bits word) = 0x4000000000000 + (bits * 0x100000000 + word)
 codeOf C.OutputEnable = 0x5000000000000
 
-abbrev pub pickPattern : Bool → Pattern → Pattern → Pattern
-pickPattern true a b = a
-pickPattern false a b = b
-
 abbrev pub patternAt : ℕ → Pattern
 patternAt n =
-    pickPattern (eqb n 0) P.ResetHigh (pickPattern (eqb n 1) P.ResetIdle (pickPattern (eqb n 2) P.JtagToSwd
-    (pickPattern (eqb n 3) P.SwdToDormant (pickPattern (eqb n 4) P.AlertHigh (pickPattern (eqb n 5) P.SelectionAlert
-    (pickPattern (eqb n 6) P.AlertIdle P.SwdActivation))))))
-
-abbrev pub pickCall : Bool → Call → Call → Call
-pickCall true a b = a
-pickCall false a b = b
+    cond (eqb n 0) P.ResetHigh (cond (eqb n 1) P.ResetIdle (cond (eqb n 2) P.JtagToSwd
+    (cond (eqb n 3) P.SwdToDormant (cond (eqb n 4) P.AlertHigh (cond (eqb n 5) P.SelectionAlert
+    (cond (eqb n 6) P.AlertIdle P.SwdActivation))))))
 
 -- the transport call that a number stands for
 abbrev pub callOf : ℕ → Call
 callOf x =
-    pickCall (eqb (x / 0x1000000000000) 0) (C.Transfer (x / 0x100000000 % 256) (x % 0x100000000))
-    (pickCall (eqb (x / 0x1000000000000) 1) C.Connect
-    (pickCall (eqb (x / 0x1000000000000) 2) (C.Sequence (patternAt (x % 0x100000000)))
-    (pickCall (eqb (x / 0x1000000000000) 3) (C.Pins (x / 0x10000000000 % 256) (x / 0x100000000 % 256) (x % 0x100000000))
-    (pickCall (eqb (x / 0x1000000000000) 4) (C.WriteBits (x / 0x100000000 % 256) (x % 0x100000000))
+    cond (eqb (x / 0x1000000000000) 0) (C.Transfer (x / 0x100000000 % 256) (x % 0x100000000))
+    (cond (eqb (x / 0x1000000000000) 1) C.Connect
+    (cond (eqb (x / 0x1000000000000) 2) (C.Sequence (patternAt (x % 0x100000000)))
+    (cond (eqb (x / 0x1000000000000) 3) (C.Pins (x / 0x10000000000 % 256) (x / 0x100000000 % 256) (x % 0x100000000))
+    (cond (eqb (x / 0x1000000000000) 4) (C.WriteBits (x / 0x100000000 % 256) (x % 0x100000000))
     C.OutputEnable))))

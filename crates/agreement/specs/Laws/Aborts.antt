@@ -1,7 +1,7 @@
 -- Where the ignored ABORT stands in a tree: right after a transfer that failed other than by WAIT, and nowhere else. So what the
 -- session sees as lost is what the trace alone shows as lost. Serves the proofs only.
 use Prim.Native.Nat.{ℕ, zero, suc, _+_, _-_}
-use mathlib.Core.Bool.{Bool, true, false, not, _&&_, _||_}
+use mathlib.Core.Bool.{Bool, true, false, not, _&&_, _||_, cond}
 use mathlib.Core.List.{List, [], _∷_}
 use mathlib.Core.Path.{_≡_, refl, ap}
 use lib.Dec.{eqb}
@@ -14,7 +14,7 @@ use Rattle.wire.specs.declared.Answer.the-variants.{Good, SwdError, NotSupporte
 use Rattle.wire.specs.declared.Outcome.{Outcome}
 use Rattle.wire.specs.declared.Outcome.the-variants.{Value, Failed}
 use Rattle.wire.specs.declared.Remembered.{Remembered}
-use Rattle.wire_memap.specs.Action.{Then, Action, _>>=_, _>>_, return, cond, transferring, remember, onValue}
+use Rattle.wire_memap.specs.Action.{Then, Action, _>>=_, _>>_, return, transferring, remember, onValue}
 use Rattle.wire_memap.specs.Ports.{
   SELECT,
   RDBUFF,

@@ -1,6 +1,6 @@
 -- What the progress of a write says of the bytes that Demand3 speaks of. Serves the proofs only.
 use Prim.Native.Nat.{ℕ, _+_, _-_, _≤_, _<_}
-use mathlib.Core.Bool.{Bool, true, false, _&&_}
+use mathlib.Core.Bool.{Bool, true, false, _&&_, cond}
 use mathlib.Core.Path.{_≡_, refl, ap, _∙_}
 use mathlib.Core.List.{List}
 use native.Mathlib.Decide.{decLt}
@@ -8,7 +8,6 @@ use native.Mathlib.Omega.{arith}
 use lib.Dec.{leb, ltb}
 use lib.ListN.{length, getD}
 use borrow.Author.Tests.{le-leb, lt-leb, lt-ltb, le-ltb, leb-true}
-use Rattle.target.specs.Choice.{pick}
 use Rattle.target.specs.declared.Byte.{Byte}
 use Rattle.target.specs.declared.Byte.the-variants.{Value, Absent}
 use Rattle.session_items.specs.History.{Made}
@@ -17,7 +16,7 @@ use Rattle.agreement.specs.Laws.Progress.{Progress}
 
 -- the byte at an address of a memory that starts at `base`
 abbrev pub byteIn : ℕ → List ℕ → ℕ → Byte
-byteIn base m a = pick (leb base a && ltb a (base + length m)) (Value (getD m (a - base) 0)) Absent
+byteIn base m a = cond (leb base a && ltb a (base + length m)) (Value (getD m (a - base) 0)) Absent
 
 pub byte-in : (base : ℕ) (m : List ℕ) (a : ℕ) → base ≤ a → a < base + length m → byteIn base m a ≡ Value (getD m (a - base) 0)
 byte-in base m a l h = rw (le-leb _ _ l, lt-ltb _ _ h)
@@ -28,7 +27,7 @@ same-byte : (base : ℕ) (m n : List ℕ) (a : ℕ) → length m ≡ length n �
 same-byte base m n a e f = rw e (go (leb base a) refl (ltb a (base + length n)))
   where
     go : (x : Bool) → leb base a ≡ x → (y : Bool)
-        → pick (x && y) (Value (getD m (a - base) 0)) Absent ≡ pick (x && y) (Value (getD n (a - base) 0)) Absent
+        → cond (x && y) (Value (getD m (a - base) 0)) Absent ≡ cond (x && y) (Value (getD n (a - base) 0)) Absent
     go true p true = ap Value (f (leb-true _ _ p))
     go true p false = refl
     go false p y = refl

@@ -1,13 +1,12 @@
 -- What a delivered access to DRW or RDBUFF does, where SELECT, CSW and TAR stand as a run wants them. Serves the proofs only.
 use Prim.Native.Nat.{ℕ, suc, _+_, _-_, _*_, _%_, _≤_, _<_}
-use mathlib.Core.Bool.{Bool, true, false, true≢false}
+use mathlib.Core.Bool.{Bool, true, false, true≢false, cond}
 use mathlib.Core.Path.{_≡_, refl, sym, ap, _∙_}
 use mathlib.Core.List.{List}
 use native.Mathlib.Omega.{arith}
 use lib.ListN.{length}
 use Rattle.wire.specs.Bytes.{putWord, leWord}
 use Rattle.wire_memap.specs.Ports.{CSW-DEFAULT}
-use Rattle.target.specs.Choice.{pick}
 use Rattle.target.specs.Memory.{inMemory}
 use Rattle.target.specs.Laws.Memory.{in-memory}
 use Rattle.target.specs.Fields.{withRdbuff}
@@ -68,7 +67,7 @@ module _ {base a : ℕ} {t : Target} (r : Poised base t) (tar : t .tar ≡ a) (z
     drw-write w P f g h = at-zero t mem 0xD w P refl (r .select) f (λ _. go (inMemory t mem (wordAddress t)) refl)
       where
         go : (x : Bool) → inMemory t mem (wordAddress t) ≡ x
-            → P (delivery 0 (pick x (advanced t) (failed t)) (pick x (putWord mem (wordAddress t - t .base) w) mem))
+            → P (delivery 0 (cond x (advanced t) (failed t)) (cond x (putWord mem (wordAddress t - t .base) w) mem))
         go true e = rw place (g (here e .0) (here e .1))
         go false e = h
 
@@ -79,7 +78,7 @@ module _ {base a : ℕ} {t : Target} (r : Poised base t) (tar : t .tar ≡ a) (z
     drw-read P f g h = at-zero t mem 0xF 0 P refl (r .select) f (λ _. go (inMemory t mem (wordAddress t)) refl)
       where
         go : (x : Bool) → inMemory t mem (wordAddress t) ≡ x
-            → P (replied (pick x (posted (advanced t) (leWord mem (wordAddress t - t .base))) (posted (failed t) 0)) mem)
+            → P (replied (cond x (posted (advanced t) (leWord mem (wordAddress t - t .base))) (posted (failed t) 0)) mem)
         go true e = g (leWord mem (wordAddress t - t .base)) (record { low = here e .0; high = here e .1; word = ap (leWord mem) place })
         go false e = h
 

@@ -1,7 +1,7 @@
 -- Over every line a sound job keeps what is remembered in agreement with the target, until an answer is lost. This is one
 -- induction over the jobs, whatever call they are of. Serves the proofs only.
 use Prim.Native.Nat.{ℕ, zero, suc, _+_, _-_}
-use mathlib.Core.Bool.{Bool, true, false, _&&_, false≢true}
+use mathlib.Core.Bool.{Bool, true, false, _&&_, false≢true, cond}
 use mathlib.Core.List.{List}
 use mathlib.Core.Path.{_≡_, refl}
 use native.Mathlib.Omega.{arith}
@@ -19,7 +19,6 @@ use Rattle.call.specs.Change.{fresh, changed}
 use Rattle.call.specs.Job.{Job, ends, op, keep, exec}
 use Rattle.call.specs.declared.Change.{Change}
 use Rattle.call.specs.declared.Change.the-variants as C
-use Rattle.target.specs.Choice.{pick}
 use Rattle.target.specs.Decode.{rowOf}
 use Rattle.target.specs.Fields.{withSelect}
 use Rattle.target.specs.Deliver.{Reply, ok, fault, transfer as delivered}
@@ -167,19 +166,19 @@ module _ {b : Bool} where
       go forgotten h m t mem p = zero-at (p .0) (p .1)
       go zeroed h m t mem p = zero-at (p .0) (p .1 .0)
 
-  leads-read : (s : Stage) (addr : ℕ) (c : Bool) → calm (2 + a32 addr) ≡ c → Admits (pick c none unsound) s
-      → Leads b s (dpRead addr) (next (pick c none unsound) s)
+  leads-read : (s : Stage) (addr : ℕ) (c : Bool) → calm (2 + a32 addr) ≡ c → Admits (cond c none unsound) s
+      → Leads b s (dpRead addr) (next (cond c none unsound) s)
   leads-read s addr true e h = leads-calm s (2 + a32 addr) 0 e
   leads-read s addr false e h = absurd h
 
   leads-write : (s : Stage) (addr word : ℕ) (c : Bool) → calm (a32 addr) ≡ c → (z : Bool) → eqb (a32 addr) SELECT && eqb word 0 ≡ z
-      → Admits (pick c none (pick z writes unsound)) s → Leads b s (dpWrite addr word) (next (pick c none (pick z writes unsound)) s)
+      → Admits (cond c none (cond z writes unsound)) s → Leads b s (dpWrite addr word) (next (cond c none (cond z writes unsound)) s)
   leads-write s addr word true e z f h = binds (leads-calm s (a32 addr) word e) (λ _. returns λ _ _ _ p. p)
   leads-write s addr word false e true f h = leads-zero s (a32 addr) word f h
   leads-write s addr word false e false f h = absurd h
 
-  leads-other : (s : Stage) (c : Call) (x : Bool) → isTransfer c ≡ x → Admits (pick x unsound none) s
-      → Leads b s (perform (O.Other c)) (next (pick x unsound none) s)
+  leads-other : (s : Stage) (c : Call) (x : Bool) → isTransfer c ≡ x → Admits (cond x unsound none) s
+      → Leads b s (perform (O.Other c)) (next (cond x unsound none) s)
   unfolding perform
   leads-other s c true e h = absurd h
   leads-other s c false e h = others stopping c e (λ _ _ _ p. p .0) (λ _ _ _ p. p)

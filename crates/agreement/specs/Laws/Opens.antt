@@ -1,6 +1,6 @@
 -- Clause 1: the session is open exactly when the calls, their results and the answers say so, whatever answers. Serves the proofs only.
 use Prim.Native.Nat.{ℕ}
-use mathlib.Core.Bool.{Bool, true, false, _&&_, _||_}
+use mathlib.Core.Bool.{Bool, true, false, _&&_, _||_, cond}
 use mathlib.Core.List.{List, [], _∷_}
 use mathlib.Core.Path.{_≡_, refl, sym, ap, _∙_}
 use lib.ListN.{length}
@@ -14,7 +14,6 @@ use Rattle.wire_memap.specs.declared.Op.{Op}
 use Rattle.wire_memap.specs.declared.Op.the-variants as O
 use Rattle.call.specs.Job.{Job, ends, op, keep, exec, either}
 use Rattle.engine_calls.specs.Calls.{jobOf}
-use Rattle.target.specs.Choice.{pick}
 use Rattle.session_rules.specs.Admits.{engineCall, isConnect, refusal}
 use Rattle.session_rules.specs.Session.{Standing, called, checked, sessionTree}
 use Rattle.session_rules.specs.declared.SessionCall.{SessionCall}
@@ -37,7 +36,7 @@ no-raw (O.ReadWords addr n last) s h = tt
 no-raw (O.WriteWords addr n last) s h = tt
 no-raw (O.Other c) s h = go (isTransfer c) h
   where
-    go : (b : Bool) → Admits (pick b unsound none) s → b ≡ false
+    go : (b : Bool) → Admits (cond b unsound none) s → b ≡ false
     go true h = absurd h
     go false h = refl
 

@@ -1,6 +1,6 @@
 -- A check on jobs that needs no target: what a job does to SELECT, here and in the target, goes together. Serves the proofs only.
 use Prim.Native.Nat.{ℕ, _+_}
-use mathlib.Core.Bool.{Bool, true, false, _&&_}
+use mathlib.Core.Bool.{Bool, true, false, _&&_, cond}
 use lib.Dec.{eqb}
 use Rattle.wire.specs.declared.ArmError.{ArmError}
 use Rattle.wire.specs.declared.Outcome.{Outcome}
@@ -8,10 +8,9 @@ use Rattle.wire.specs.declared.Outcome.the-variants.{Value, Failed}
 use Rattle.wire_memap.specs.Ports.{SELECT, a32}
 use Rattle.wire_memap.specs.declared.Op.{Op}
 use Rattle.wire_memap.specs.declared.Op.the-variants as O
-use Rattle.call.specs.Job.{Job, ends, op, keep, attempt, orFail, _>>=_, cond}
+use Rattle.call.specs.Job.{Job, ends, op, keep, attempt, orFail, _>>=_}
 use Rattle.call.specs.declared.Change.{Change}
 use Rattle.call.specs.declared.Change.the-variants as C
-use Rattle.target.specs.Choice.{pick}
 use Rattle.target.specs.Decode.{rowOf}
 use Rattle.agreement.specs.Demand3.{isTransfer}
 use Rattle.agreement.specs.Laws.Facts.{steady, quiet, over}
@@ -42,15 +41,15 @@ abbrev pub calm : ℕ → Bool
 calm q = over steady (rowOf q) && over quiet (rowOf q)
 
 abbrev pub effect : Op → Effect
-effect (O.DpRead addr) = pick (calm (2 + a32 addr)) none unsound
-effect (O.DpWrite addr word) = pick (calm (a32 addr)) none (pick (eqb (a32 addr) SELECT && eqb word 0) writes unsound)
+effect (O.DpRead addr) = cond (calm (2 + a32 addr)) none unsound
+effect (O.DpWrite addr word) = cond (calm (a32 addr)) none (cond (eqb (a32 addr) SELECT && eqb word 0) writes unsound)
 effect (O.ApRead addr) = unsound
 effect (O.ApWrite addr word) = unsound
 effect (O.ReadWord addr) = selects
 effect (O.WriteWord addr word) = selects
 effect (O.ReadWords addr n last) = selects
 effect (O.WriteWords addr n last) = selects
-effect (O.Other c) = pick (isTransfer c) unsound none
+effect (O.Other c) = cond (isTransfer c) unsound none
 
 abbrev pub effectOf : Change → Effect
 effectOf C.Nothing = none

@@ -1,7 +1,7 @@
 -- Rules for actions over the line: one transfer, a transport call that is none, and what chains them. Serves the proofs only.
 -- An action that is answered Ok has lost nothing: what holds after it speaks of the same `lost` as what holds before it.
 use Prim.Native.Nat.{ℕ, zero, suc}
-use mathlib.Core.Bool.{Bool, true, false, _||_, true≢false}
+use mathlib.Core.Bool.{Bool, true, false, _||_, true≢false, cond}
 use mathlib.Core.List.{List}
 use mathlib.Core.Path.{_≡_, refl, ap}
 use lib.Dec.{eqb}
@@ -16,7 +16,7 @@ use Rattle.wire.specs.declared.ArmError.{ArmError}
 use Rattle.wire.specs.declared.ArmError.the-variants as E
 use Rattle.wire.specs.declared.Outcome.the-variants.{Value, Failed}
 use Rattle.wire.specs.declared.Remembered.{Remembered}
-use Rattle.wire_memap.specs.Action.{Then, Action, _>>=_, return, cond, transferring, remembering, remember}
+use Rattle.wire_memap.specs.Action.{Then, Action, _>>=_, return, transferring, remembering, remember}
 use Rattle.wire_memap.specs.Words.{placed, place}
 use Rattle.target.specs.Deliver.{Delivery, Reply, ok, fault, answerOf, deliver, untouched, transfer as delivered}
 use Rattle.target.specs.Line.{line, ackOf, errorOf}

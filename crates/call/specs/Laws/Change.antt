@@ -1,12 +1,37 @@
 -- What is remembered, the words and the buffer after a change are together the memory after it. Serves the proofs only.
 use Prim.Native.Nat.{ℕ}
-use mathlib.Core.List.{List}
-use mathlib.Core.Path.{_≡_}
+use mathlib.Core.List.{List, []}
+use mathlib.Core.Path.{_≡_, refl}
 use Rattle.wire.specs.Wire.{memoryOf}
 use Rattle.wire.specs.declared.Remembered.{Remembered}
-use Rattle.call.specs.Change.{changed, rememberedAfter, wordsAfter, bufAfter}
+use Rattle.call.specs.Change.{fresh, changed}
 use Rattle.call.specs.declared.Change.{Change}
+use Rattle.call.specs.declared.Change.the-variants as C
+
+-- what is remembered does not depend on words and buffer, nor these on it
+abbrev pub rememberedAfter : Change → Remembered → Remembered
+rememberedAfter c r = changed c (memoryOf r [] []) .remembered
+
+abbrev pub wordsAfter : Change → List ℕ → List ℕ → List ℕ
+wordsAfter c ws b = changed c (memoryOf fresh ws b) .words
+
+abbrev pub bufAfter : Change → List ℕ → List ℕ → List ℕ
+bufAfter c ws b = changed c (memoryOf fresh ws b) .buf
+
+parts : (c : Change) (r : Remembered) (ws b : List ℕ)
+    → changed c (memoryOf r ws b) ≡ memoryOf (rememberedAfter c r) (wordsAfter c ws b) (bufAfter c ws b)
+parts C.Nothing r ws b = refl
+parts C.New r ws b = refl
+parts C.Forget r ws b = refl
+parts C.SelectZero r ws b = refl
+parts (C.Apsel a) r ws b = refl
+parts (C.StoreWords at n) r ws b = refl
+parts (C.StorePart at skip count word) r ws b = refl
+parts (C.LoadWords at n) r ws b = refl
+parts (C.Patch at skip count word) r ws b = refl
+parts (C.Put at word) r ws b = refl
+parts (C.Registers r0 r1 r2 r3 sp lr pc) r ws b = refl
 
 pub same-memory : (c : Change) (r : Remembered) (ws b : List ℕ) (r₂ : Remembered) (ws₂ b₂ : List ℕ)
     → r₂ ≡ rememberedAfter c r → ws₂ ≡ wordsAfter c ws b → b₂ ≡ bufAfter c ws b → changed c (memoryOf r ws b) ≡ memoryOf r₂ ws₂ b₂
-same-memory c r ws b r₂ ws₂ b₂ p q s = rw (p, q, s)
+same-memory c r ws b r₂ ws₂ b₂ p q s = rw (p, q, s) (parts c r ws b)

@@ -1,6 +1,6 @@
 -- What follows each operation of a connect. Serves the proofs only: the table of phases, and that it is the calls as written.
 use Prim.Native.Nat.{ℕ, zero, suc, _-_, _≤_, zero-le}
-use mathlib.Core.Bool.{true}
+use mathlib.Core.Bool.{true, cond}
 use mathlib.Core.List.{List, [], _∷_}
 use mathlib.Core.Path.{_≡_, refl, ap}
 use native.Mathlib.Omega.{arith}
@@ -14,7 +14,7 @@ use Rattle.wire.specs.declared.Outcome.{Outcome}
 use Rattle.wire.specs.declared.Outcome.the-variants.{Value, Failed}
 use Rattle.wire_memap.specs.declared.Op.the-variants as O
 use Rattle.wire_memap.specs.Ports.{DPIDR, CTRL-STAT, SELECT}
-use Rattle.call.specs.Job.{Job, op, _>>=_, _>>_, return, fail, cond, keeping, dpWrite}
+use Rattle.call.specs.Job.{Job, op, _>>=_, _>>_, return, fail, keeping, dpWrite}
 use Rattle.call.specs.declared.Change.the-variants as C
 use Rattle.call_connect.specs.Connect.{
   parity,

@@ -1,11 +1,11 @@
 -- What follows each operation of a call: the table of phases. Serves the proofs only.
 use Prim.Native.Nat.{ℕ, _+_, _-_, _*_, _/_, _%_}
-use mathlib.Core.Bool.{Bool, true, false}
+use mathlib.Core.Bool.{Bool, true, false, cond}
 use lib.Dec.{eqb}
 use Rattle.wire.specs.declared.ArmError.{ArmError}
 use Rattle.wire.specs.declared.Outcome.{Outcome}
 use Rattle.wire.specs.declared.Outcome.the-variants.{Value, Failed}
-use Rattle.call.specs.Job.{Job, ends, attempt, orFail, _>>=_, _>>_, return, fail, cond, keeping, readWord, writeWord}
+use Rattle.call.specs.Job.{Job, ends, attempt, orFail, _>>=_, _>>_, return, fail, keeping, readWord, writeWord}
 use Rattle.call.specs.declared.Change.the-variants as C
 use Rattle.call_core.specs.Cortex.{DHCSR, DCRDR, DBGKEY, C-DEBUGEN, C-HALT, S-REGRDY, S-HALT, status, stands, R0}
 use Rattle.call_core.specs.Core.{POLLS, waitStatus, readCoreReg, storeCoreReg}

@@ -1,6 +1,6 @@
 -- The loops of After turn by turn, as the code takes them. Serves the proofs only.
 use Prim.Native.Nat.{ℕ, zero, suc, _+_, _-_, _*_, _/_, _%_}
-use mathlib.Core.Bool.{true, false}
+use mathlib.Core.Bool.{true, false, cond}
 use mathlib.Core.Path.{_≡_, refl, ap, _∙_}
 use native.Mathlib.Omega.{arith}
 use lib.Dec.{eqb}
@@ -9,7 +9,7 @@ use Rattle.wire.specs.Laws.Numbers.{less}
 use Rattle.wire.specs.declared.ArmError.the-variants as E
 use Rattle.wire.specs.declared.Outcome.the-variants.{Failed}
 use Rattle.wire_memap.specs.declared.Op.the-variants as O
-use Rattle.call.specs.Job.{Job, op, attempt, _>>=_, _>>_, return, fail, cond, keeping, writeWord}
+use Rattle.call.specs.Job.{Job, op, attempt, _>>=_, _>>_, return, fail, keeping, writeWord}
 use Rattle.call.specs.Laws.Job.{bind-assoc}
 use Rattle.call.specs.declared.Change.the-variants as C
 use Rattle.call_core.specs.Cortex.{DHCSR, C-HALT, stands}

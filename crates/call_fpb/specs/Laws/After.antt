@@ -1,13 +1,13 @@
 -- What follows each operation of a breakpoint call. Serves the proofs only: the table of phases, and that it is the calls as written.
 use Prim.Native.Nat.{ℕ, zero, suc, _-_}
-use mathlib.Core.Bool.{Bool, true, false}
+use mathlib.Core.Bool.{Bool, true, false, cond}
 use mathlib.Core.Path.{_≡_, refl, ap}
 use lib.Dec.{eqb}
 use Rattle.wire.specs.Laws.Numbers.{less}
 use Rattle.wire.specs.declared.Outcome.{Outcome}
 use Rattle.wire.specs.declared.Outcome.the-variants.{Value, Failed}
 use Rattle.wire_memap.specs.declared.Op.the-variants as O
-use Rattle.call.specs.Job.{Job, op, _>>=_, _>>_, fail, cond, writeWord}
+use Rattle.call.specs.Job.{Job, op, _>>=_, _>>_, fail, writeWord}
 use Rattle.call_fpb.specs.Fpb as fpb
 use Rattle.call_fpb.specs.Breakpoint.{
   yes,

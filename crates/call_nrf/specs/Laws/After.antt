@@ -1,6 +1,6 @@
 -- What follows each operation of a Nordic call. Serves the proofs only: the table of phases, and that it is the calls as written.
 use Prim.Native.Nat.{ℕ, zero, suc, _-_, _%_}
-use mathlib.Core.Bool.{Bool, true}
+use mathlib.Core.Bool.{Bool, true, cond}
 use mathlib.Core.Path.{_≡_, refl, ap}
 use lib.Dec.{eqb}
 use Rattle.wire.specs.Laws.Numbers.{less}
@@ -8,7 +8,7 @@ use Rattle.wire.specs.declared.Outcome.{Outcome}
 use Rattle.wire.specs.declared.Outcome.the-variants.{Value, Failed}
 use Rattle.wire_memap.specs.declared.Op.{Op}
 use Rattle.wire_memap.specs.declared.Op.the-variants as O
-use Rattle.call.specs.Job.{Job, op, ends, _>>_, return, fail, cond, just, apWrite, writeWord}
+use Rattle.call.specs.Job.{Job, op, ends, _>>_, return, fail, just, apWrite, writeWord}
 use Rattle.call_nrf.specs.Nrf52 as nrf52
 use Rattle.call_nrf.specs.Nrf54 as nrf54
 use Rattle.call_nrf.specs.Nrf.{setApsel, answer, readStatus, outcome, softReset, pollErased, waitReady, runs}

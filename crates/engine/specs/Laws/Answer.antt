@@ -1,6 +1,6 @@
 -- What comes next in the tree of a state is what its words tell. Serves the proofs only.
 use Prim.Native.Nat.{ℕ}
-use mathlib.Core.Bool.{Bool, true, false}
+use mathlib.Core.Bool.{Bool, true, false, cond}
 use mathlib.Core.List.{List, []}
 use mathlib.Core.Path.{_≡_, refl, sym, ap, subst, _∙_}
 use lib.Dec.{eqb}
@@ -18,7 +18,7 @@ use Rattle.wire_numbers.specs.declared.CallEnding.{CallEnding}
 use Rattle.wire_numbers.specs.declared.TransportCall.{TransportCall}
 use Rattle.wire_memap.specs.Laws.Doing.{rememberedOf, stands, Remembers}
 use Rattle.wire_memap.specs.Laws.Flight.{Fits}
-use Rattle.engine_calls.specs.Calls.{pick, lent, callTree}
+use Rattle.engine_calls.specs.Calls.{lent, callTree}
 use Rattle.engine_calls.specs.declared.EngineCall.{EngineCall}
 use Rattle.wire.specs.declared.Remembered.{Remembered}
 use Rattle.engine.specs.Step.{nextOf, bytesOf, memoryIn, CountedIn, Steps, Lent, Stepped}
@@ -85,7 +85,7 @@ answered {w} {own} {t} {m} {c} {row₀} {words₀} {row} {words} {b} x l a = rec
 }
   where
     ws : List ℕ
-    ws = pick own words row
+    ws = cond own words row
 
     tells : Tells w (x .next) (x .bytes) (stands m ws b)
     tells = subst (λ (w : Wire). Tells w (x .next) (x .bytes) (stands m ws b)) (sym (l .stand .tree)) (a .tells ws b)

@@ -1,6 +1,6 @@
 -- What the stores of the code leave, and why the words of a state stand for the rest of the call. Serves the proofs only.
 use Prim.Native.Nat.{ℕ}
-use mathlib.Core.Bool.{Bool, true, false}
+use mathlib.Core.Bool.{Bool, true, false, cond}
 use mathlib.Core.List.{List, []}
 use mathlib.Core.Path.{_≡_, refl, sym, ap, subst, _∙_}
 use native.Mathlib.Omega.{arith}
@@ -31,7 +31,7 @@ use Rattle.call.specs.declared.Next.{Next}
 use Rattle.call.specs.declared.Next.the-variants.{Do, End}
 use Rattle.call.specs.declared.Change.{Change}
 use Rattle.engine_calls.specs.Laws.After.{callAfter, asksJob, asks-next}
-use Rattle.engine_calls.specs.Calls.{pick, jobOf, callTree}
+use Rattle.engine_calls.specs.Calls.{jobOf, callTree}
 use Rattle.engine_calls.specs.Calls as E
 use Rattle.engine_calls.specs.declared.EngineCall.{EngineCall}
 use Rattle.engine.specs.Laws.State.{Status, Running, Ended, which, atOf, statusAs, statusOf, ownOf, CallSized, flightTree, statusTree, wordsTree, stateTree, by-words}
@@ -170,8 +170,8 @@ step-asks a t₀ m₀ c₀ ws₀ b₀ {r} {t₁} {m₁} {ws₁} o x e g at is k 
 
 -- The same over a row and the caller's words, of which `own` says which one the call runs over; the other is unchanged.
 pub record LentIn (own : Bool) (w : Wire) (t m c row₀ words₀ row words b : List ℕ) : Type 0 where
-  pub stand : StandsFor w own t m c (pick own words row) b
-  pub other : pick own row words ≡ pick own row₀ words₀
+  pub stand : StandsFor w own t m c (cond own words row) b
+  pub other : cond own row words ≡ cond own row₀ words₀
 
 -- a call is started in the words t₀, m₀ and c₀, of which m₀ has what is remembered
 pub record StartedIn (x : EngineCall) (t₀ m₀ c₀ row₀ words₀ b₀ t m c row words b : List ℕ) : Type 0 where
@@ -180,7 +180,7 @@ pub record StartedIn (x : EngineCall) (t₀ m₀ c₀ row₀ words₀ b₀ t m c
 -- a step; a call that has ended stays as it is
 pub record SteppedIn (a : Answer) (t₀ m₀ c₀ row₀ words₀ b₀ t m c row words b : List ℕ) : Type 0 where
   pub lent : Fits t₀ m₀ → CallSized c₀
-      → LentIn (ownOf c₀) (follow (wordsTree t₀ m₀ c₀ (pick (ownOf c₀) words₀ row₀) b₀) a) t m c row₀ words₀ row words b
+      → LentIn (ownOf c₀) (follow (wordsTree t₀ m₀ c₀ (cond (ownOf c₀) words₀ row₀) b₀) a) t m c row₀ words₀ row words b
   pub stays : (o : Outcome) → statusOf c₀ ≡ Ended o → (t ≡ t₀) × (m ≡ m₀) × (c ≡ c₀)
 
 -- whose words a call runs over
@@ -189,28 +189,28 @@ own-set n = by-words (λ c. (ownOf (set c 9 n) ≡ eqb n 1) × CallSized (set c 
 
 pub starts-in : (n : ℕ) (own : Bool) (x : EngineCall) (y : Asks) (t₀ m₀ c₀ row₀ words₀ b₀ : List ℕ) {t m c row words b : List ℕ} → eqb n 1 ≡ own → E.lent x ≡ own
     → jobOf x (length words₀) (length b₀) ≡ asksJob y
-    → AsksIn y t₀ m₀ (set c₀ 9 n) (pick own words₀ row₀) b₀ t m c (pick own words row) b → pick own row words ≡ pick own row₀ words₀
+    → AsksIn y t₀ m₀ (set c₀ 9 n) (cond own words₀ row₀) b₀ t m c (cond own words row) b → cond own row words ≡ cond own row₀ words₀
     → StartedIn x t₀ m₀ c₀ row₀ words₀ b₀ t m c row words b
 starts-in n own x y t₀ m₀ c₀ row₀ words₀ b₀ {t} {m} {c} {row} {words} {b} e l is k o = record {
   lent = λ f s.
-      subst (λ (own : Bool). LentIn own (exec (jobOf x (length words₀) (length b₀)) (memoryOf (rememberedOf m₀) (pick own words₀ row₀) b₀)) t m c row₀ words₀ row words b) (sym l)
+      subst (λ (own : Bool). LentIn own (exec (jobOf x (length words₀) (length b₀)) (memoryOf (rememberedOf m₀) (cond own words₀ row₀) b₀)) t m c row₀ words₀ row words b) (sym l)
       (record {
-        stand = subst (λ (p : Bool). StandsFor (exec (jobOf x (length words₀) (length b₀)) (stands m₀ (pick own words₀ row₀) b₀)) p t m c (pick own words row) b)
+        stand = subst (λ (p : Bool). StandsFor (exec (jobOf x (length words₀) (length b₀)) (stands m₀ (cond own words₀ row₀) b₀)) p t m c (cond own words row) b)
             (own-set n c₀ s .0 ∙ e)
-            (stands-for (ap (λ (j : Job). exec j (stands m₀ (pick own words₀ row₀) b₀)) is) (k .asks f (own-set n c₀ s .1)));
+            (stands-for (ap (λ (j : Job). exec j (stands m₀ (cond own words₀ row₀) b₀)) is) (k .asks f (own-set n c₀ s .1)));
         other = o;
       });
 }
 
 -- a step of a call under way, over the words that `own` names
 pub steps-in : (own : Bool) (a : Answer) (t₀ m₀ c₀ row₀ words₀ b₀ : List ℕ) {t m c row words b : List ℕ} → eqb (getD c₀ 6 0) 0 ≡ true → ownOf c₀ ≡ own
-    → StepsIn a t₀ m₀ c₀ (pick own words₀ row₀) b₀ t m c (pick own words row) b → pick own row words ≡ pick own row₀ words₀
+    → StepsIn a t₀ m₀ c₀ (cond own words₀ row₀) b₀ t m c (cond own words row) b → cond own row words ≡ cond own row₀ words₀
     → SteppedIn a t₀ m₀ c₀ row₀ words₀ b₀ t m c row words b
 steps-in own a t₀ m₀ c₀ row₀ words₀ b₀ {t} {m} {c} {row} {words} {b} z w k o = record {
-  lent = λ f s. subst (λ (own : Bool). LentIn own (follow (wordsTree t₀ m₀ c₀ (pick own words₀ row₀) b₀) a) t m c row₀ words₀ row words b) (sym w)
+  lent = λ f s. subst (λ (own : Bool). LentIn own (follow (wordsTree t₀ m₀ c₀ (cond own words₀ row₀) b₀) a) t m c row₀ words₀ row words b) (sym w)
       (record {
-        stand = stands-for (ap (λ (d : Status). follow (statusTree d (flightTree t₀ m₀ c₀ (pick own words₀ row₀) b₀) (stands m₀ (pick own words₀ row₀) b₀)) a) run)
-            (subst (λ (p : Bool). StandsFor (follow (flightTree t₀ m₀ c₀ (pick own words₀ row₀) b₀) a) p t m c (pick own words row) b) w (k .steps run f s));
+        stand = stands-for (ap (λ (d : Status). follow (statusTree d (flightTree t₀ m₀ c₀ (cond own words₀ row₀) b₀) (stands m₀ (cond own words₀ row₀) b₀)) a) run)
+            (subst (λ (p : Bool). StandsFor (follow (flightTree t₀ m₀ c₀ (cond own words₀ row₀) b₀) a) p t m c (cond own words row) b) w (k .steps run f s));
         other = o;
       });
   stays = λ e h. absurd (runs-on e (sym run ∙ h));
@@ -236,7 +236,7 @@ ends-again a t m c row words b z = record {
     o = outcomeOf (getD c 7 0) (getD c 8 0)
 
     ws : List ℕ
-    ws = pick (ownOf c) words row
+    ws = cond (ownOf c) words row
 
     ended : statusOf c ≡ Ended o
     ended = ap (λ (x : Bool). statusAs x o) z

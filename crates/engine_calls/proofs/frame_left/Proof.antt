@@ -1,7 +1,7 @@
 use Prim.Native.Nat.{ℕ}
+use mathlib.Core.Bool.{cond}
 use mathlib.Core.List.{List}
 use mathlib.Core.Path.{ap, _∙_}
-use Rattle.engine_calls.specs.Calls.{pick}
 use borrow.Author.Needs.{needs}
 use Rattle.engine_calls.proofs.frame_left.Statement.{statement}
 use Rattle.engine_calls.proofs.frame_left.Tie as tie
@@ -12,4 +12,4 @@ frame-left-spec =
     (λ c. search needs) (λ c. search needs) (λ c. search needs) (λ c κs. search needs) (λ c κs. search needs) (λ c. search needs) (λ c. search needs)
     (λ c. let t = c .before .before .before .before .args in
     simp (c .before .before .enum-told3 .given .1)
-    (c .handed-over .ensures ∙ ap (λ (left : List ℕ). pick (t .ok) left (t .before)) (c .before .frame-of .ensures))))
+    (c .handed-over .ensures ∙ ap (λ (left : List ℕ). cond (t .ok) left (t .before)) (c .before .frame-of .ensures))))

@@ -1,10 +1,9 @@
 -- All that a run leaves fits a listing, so `put_run` lists it; what is shown is the frame or the words, as the buffer's kind says.
-use mathlib.Core.Bool.{Bool}
+use mathlib.Core.Bool.{Bool, cond}
 use mathlib.Core.List.{List}
 use mathlib.Core.Path.{sym, ap, subst}
 use Prim.Native.Nat.{ℕ}
 use native.Mathlib.Omega.{arith}
-use Rattle.engine_calls.specs.Calls.{pick}
 use Rattle.script_lines.specs.Laws.Puts.{Puts}
 use Rattle.script.specs.Laws.Performing.{shown-text}
 use borrow.Author.Needs.{needs}
@@ -17,7 +16,7 @@ returns c =
     let e = shown .before .before .before .before .before in let a = e .args in (
       subst (λ (t : List ℕ). Puts (a .out .now) 0 t (p .put-run .last .0) (p .put-run .result))
           (shown-text _ (a .e) (a .b) _ _ (a .frame .now) (a .words .now) _ _ (shown .shown-of .ensures) (framed .is-frame .ensures)
-          (ap (λ (z : Bool). pick z (a .frame .now) (a .words .now)) (sym (test .if1 .taken))) (omega (arith, e .pre)))
+          (ap (λ (z : Bool). cond z (a .frame .now) (a .words .now)) (sym (test .if1 .taken))) (omega (arith, e .pre)))
           (p .put-run .ensures .0),
       omega (arith, e .pre, p .put-run .ensures .1),
     )
@@ -28,7 +27,7 @@ returns-2 c =
     let e = shown .before .before .before .before .before in let a = e .args in (
       subst (λ (t : List ℕ). Puts (a .out .now) 0 t (p .put-run2 .last .0) (p .put-run2 .result))
           (shown-text _ (a .e) (a .b) _ _ (a .frame .now) (a .words .now) _ _ (shown .shown-of .ensures) (framed .is-frame .ensures)
-          (ap (λ (z : Bool). pick z (a .frame .now) (a .words .now)) (sym (test .if1 .left))) (omega (arith, e .pre)))
+          (ap (λ (z : Bool). cond z (a .frame .now) (a .words .now)) (sym (test .if1 .left))) (omega (arith, e .pre)))
           (p .put-run2 .ensures .0),
       omega (arith, e .pre, p .put-run2 .ensures .1),
     )

@@ -1,6 +1,6 @@
 -- The listing of a run from what the run reports. Serves the proofs.
 use Prim.Native.Nat.{ℕ, _+_, _-_, _≤_}
-use mathlib.Core.Bool.{Bool, true, false}
+use mathlib.Core.Bool.{Bool, true, false, cond}
 use mathlib.Core.Path.{_≡_, refl, ap, sym, subst, _∙_}
 use mathlib.Core.List.{List, [], _∷_, _++_, map}
 use native.Mathlib.Omega.{arith}
@@ -15,7 +15,7 @@ use Rattle.wire_numbers.specs.declared.CallEnding.{CallEnding}
 use Rattle.call.specs.Change.{fresh}
 use Rattle.engine_calls.specs.declared.EngineCall.{EngineCall}
 use Rattle.engine_run.specs.declared.Ran.{Ran}
-use Rattle.engine_calls.specs.Calls.{pick, callTree, rowFor, frameOf, frameFor, leave}
+use Rattle.engine_calls.specs.Calls.{callTree, rowFor, frameOf, frameFor, leave}
 use Rattle.engine_calls.specs.declared.Frame.{Frame}
 use Rattle.engine_calls.specs.declared.Frame.the-variants as F
 use Rattle.engine_run.specs.Run.{within, RanAs}
@@ -93,19 +93,19 @@ module _ (c : EngineCall) (b : Buffer) (words₀ buf₀ answers : List ℕ) {new
   unfolding run
   frame-length = ap length (h .framed) ∙ frame-eight (frameFor c) (succeeds (run .ending)) (run .memory .words) words₀
 
-  pub performed-text : runLines (take (r .count) l) (r .ending) (shownOf (r .ending) b) (pick (isFrame b) frame words) buf
+  pub performed-text : runLines (take (r .count) l) (r .ending) (shownOf (r .ending) b) (cond (isFrame b) frame words) buf
       ≡ performed c b words₀ buf₀ answers
   unfolding performed run
   performed-text = rw (log-calls, h .ending, h .framed, h .lent, h .buf)
 
 -- the listing of a run, with the frame or the words that it left
 pub shown-text : (log : List ℕ) (e : CallEnding) (b : Buffer) (s : Shown) (framed : Bool) (frame words ws buf : List ℕ)
-    → s ≡ shownOf e b → framed ≡ isFrame b → ws ≡ pick framed frame words → length log + length ws + length buf ≤ 0xFFFFFFFF
-    → listed log e s ws buf ≡ runLines log e (shownOf e b) (pick (isFrame b) frame words) buf
+    → s ≡ shownOf e b → framed ≡ isFrame b → ws ≡ cond framed frame words → length log + length ws + length buf ≤ 0xFFFFFFFF
+    → listed log e s ws buf ≡ runLines log e (shownOf e b) (cond (isFrame b) frame words) buf
 shown-text log e b s framed frame words ws buf hs hf hw few =
     listed-all log e s ws buf few
     ∙ ap (λ (s : Shown). runLines log e s ws buf) hs
-    ∙ ap (λ (ws : List ℕ). runLines log e (shownOf e b) ws buf) (hw ∙ ap (λ (framed : Bool). pick framed frame words) hf)
+    ∙ ap (λ (ws : List ℕ). runLines log e (shownOf e b) ws buf) (hw ∙ ap (λ (framed : Bool). cond framed frame words) hf)
 
 -- what a request prints, from the end of its record and the answers as they were loaded
 pub request-text : (c : EngineCall) (b : Buffer) (xs : List ℕ) {end n : ℕ} {loaded : List ℕ} → end ≡ callEnd xs → n ≡ answerCount xs

@@ -1,13 +1,13 @@
 -- How a call starts: over a row of the session's own, and by the check that the code made. Serves the proofs only.
 use Prim.Native.Nat.{ℕ}
-use mathlib.Core.Bool.{Bool, false}
+use mathlib.Core.Bool.{Bool, false, cond}
 use mathlib.Core.List.{List, []}
 use mathlib.Core.Path.{_≡_, refl, sym, ap, subst, _∙_}
 use lib.ListN.{length}
 use Rattle.wire.specs.Wire.{Wire, follow}
 use Rattle.wire.specs.declared.Answer.{Answer}
 use Rattle.wire.specs.declared.Remembered.{Remembered}
-use Rattle.engine_calls.specs.Calls.{lent, pick, callTree, rowFor}
+use Rattle.engine_calls.specs.Calls.{lent, callTree, rowFor}
 use Rattle.engine.specs.Laws.State.{stateTree}
 use Rattle.engine.specs.Step.{Steps, Lent, Stepped}
 use Rattle.engine.specs.declared.State.{State}
@@ -43,7 +43,7 @@ starts c e connect r₀ r frame row₀ none₀ buf₀ x row none buf he hc hr hw
     (ap (λ (y : EngineCall). callTree y r row₀ [] buf₀) he
     ∙ ap (λ (y : Remembered). callTree (engineCall c) y row₀ [] buf₀) (hr ∙ ap (λ (b : Bool). rememberedFor b r₀) hc)
     ∙ ap (λ (y : List ℕ). callTree (engineCall c) (rememberedFor (isConnect c) r₀) y [] buf₀) (hw ∙ ap (λ (y : EngineCall). rowFor y frame) he))
-    (subst (λ (own : Bool). Steps (callTree e r row₀ [] buf₀) x (pick own none row) buf) (ap lent he ∙ over-row c) (h .steps))
+    (subst (λ (own : Bool). Steps (callTree e r row₀ [] buf₀) x (cond own none row) buf) (ap lent he ∙ over-row c) (h .steps))
 
 -- a step over the row; r is the state s as one that runs over it
 pub steps-row : (s r : State) (a : Answer) (x : StepAnswer) (row₀ none₀ buf₀ row none buf : List ℕ)
@@ -51,7 +51,7 @@ pub steps-row : (s r : State) (a : Answer) (x : StepAnswer) (row₀ none₀ buf�
     → Steps (follow (stateTree s row₀ buf₀) a) x row buf
 steps-row s r a x row₀ none₀ buf₀ row none buf h g =
     subst (λ (w : Wire). Steps (follow w a) x row buf) (h .0 row₀ buf₀)
-    (subst (λ (own : Bool). Steps (follow (stateTree r (pick own none₀ row₀) buf₀) a) x (pick own none row) buf) (h .1) (g .lent .steps))
+    (subst (λ (own : Bool). Steps (follow (stateTree r (cond own none₀ row₀) buf₀) a) x (cond own none row) buf) (h .1) (g .lent .steps))
 
 -- the check that the code made is the one that the definition asks for
 pub started-by : (before : Session) (c : SessionCall) (buf₀ : List ℕ) (s : Session) (r : Reply) (buf : List ℕ) (now : Bool) (k k₂ : Check)

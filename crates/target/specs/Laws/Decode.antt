@@ -1,12 +1,12 @@
 -- The register by one number: the request in the first hexadecimal digit, the bank in the other three. Serves the proofs only.
 use mathlib.Core.Path.{_≡_, refl, sym, ap, _∙_}
 use Prim.Native.Nat.{ℕ, _+_, _*_, _/_, _%_, _≤_, _<_}
+use mathlib.Core.Bool.{cond}
 use lib.ListN.{getD}
 use lib.Dec.{eqb}
 use native.Mathlib.Omega.{arith}
 use borrow.Author.Tests.{eq-eqb, ne-eqb}
 use Rattle.target.specs.declared.Register.{Register}
-use Rattle.target.specs.Choice.{pick}
 use Rattle.target.specs.Decode.{Row, everywhere, banked, rowOf, atBank, bankOf, registerOf}
 
 unfoldable pub registerAt : ℕ → Register

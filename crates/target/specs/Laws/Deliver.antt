@@ -1,13 +1,12 @@
 -- A delivered transfer by the register that was decoded, and by the row of its request: at a given request `by-row` leaves the one
 -- or two registers that it can reach. Serves the proofs only.
-use mathlib.Core.Bool.{Bool, true, false, not, _&&_, true≢false}
+use mathlib.Core.Bool.{Bool, true, false, not, _&&_, true≢false, cond}
 use mathlib.Core.Path.{_≡_, refl, sym, _∙_}
 use mathlib.Core.List.{List}
 use Prim.Native.Nat.{ℕ}
 use lib.Dec.{eqb}
 use Rattle.target.specs.declared.Target.{Target}
 use Rattle.target.specs.declared.Register.{Register}
-use Rattle.target.specs.Choice.{pick}
 use Rattle.target.specs.Decode.{Row, everywhere, banked, rowOf, atBank, bankOf, registerOf}
 use Rattle.target.specs.Deliver.{Delivery, fault, exempt, reach, access, transfer}
 
@@ -17,7 +16,7 @@ unfolding transfer
 transfer-at t m request w r e = rw e
 
 -- either branch of a choice
-pub either {ℓ} : {A : Type ℓ} (P : A → Type 0) (b : Bool) {x y : A} → (b ≡ true → P x) → (b ≡ false → P y) → P (pick b x y)
+pub either {ℓ} : {A : Type ℓ} (P : A → Type 0) (b : Bool) {x y : A} → (b ≡ true → P x) → (b ≡ false → P y) → P (cond b x y)
 either P true p q = p refl
 either P false p q = q refl
 
@@ -44,7 +43,7 @@ by-row t m q w P f h =
     r = registerOf q (t .select)
 
     go : (s : Bool) → t .sticky ≡ s → (x : Bool) → exempt r ≡ x → ((exempt r ≡ false → t .sticky ≡ false) → P (reach r t m w))
-        → P (pick (s && not x) (record { reply = fault; target = t; mem = m }) (reach r t m w))
+        → P (cond (s && not x) (record { reply = fault; target = t; mem = m }) (reach r t m w))
     go true e true x g = g (λ z. absurd (true≢false (sym x ∙ z)))
     go true e false x g = f e
     go false e x y g = g (λ z. e)

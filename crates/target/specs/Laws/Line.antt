@@ -1,5 +1,5 @@
 -- What the engine may conclude from an answer: WAIT is the line's and never the target's, and FAULT is never a loss.
-use mathlib.Core.Bool.{Bool, true, false}
+use mathlib.Core.Bool.{Bool, true, false, cond}
 use mathlib.Core.Path.{_≡_, refl}
 use Prim.Native.Nat.{ℕ}
 use native.Mathlib.Omega.{arith}
@@ -9,7 +9,6 @@ use Rattle.wire.specs.declared.Answer.{Answer}
 use Rattle.wire.specs.declared.Answer.the-variants as W
 use Rattle.target.specs.declared.Loss.{Loss}
 use Rattle.target.specs.declared.Loss.the-variants.{Ack, NotSupported, Other}
-use Rattle.target.specs.Choice.{pick}
 use Rattle.target.specs.Deliver.{Reply, ok, fault, answerOf}
 use Rattle.target.specs.Line.{ackOf, errorOf}
 
@@ -20,7 +19,7 @@ target-never-waits fault h = let z : _≡_ {A = ℕ} 4 2 = cc in omega arith
 ack-other : (k : ℕ) → (ackOf k ≡ 2 → ⊥) × (ackOf k ≡ 4 → ⊥)
 ack-other k = go (eqb k 2) refl (eqb k 4) refl
   where
-    go : (a : Bool) → eqb k 2 ≡ a → (b : Bool) → eqb k 4 ≡ b → (pick a 7 (pick b 7 k) ≡ 2 → ⊥) × (pick a 7 (pick b 7 k) ≡ 4 → ⊥)
+    go : (a : Bool) → eqb k 2 ≡ a → (b : Bool) → eqb k 4 ≡ b → (cond a 7 (cond b 7 k) ≡ 2 → ⊥) × (cond a 7 (cond b 7 k) ≡ 4 → ⊥)
     go true p b q = ((λ h. omega arith), λ h. omega arith)
     go false p true q = ((λ h. omega arith), λ h. omega arith)
     go false p false q = (eqb-false k 2 p, eqb-false k 4 q)

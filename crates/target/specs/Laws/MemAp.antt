@@ -1,6 +1,6 @@
 -- What the increment of TAR keeps: whatever the width, the next TAR is a word, and within 1 KiB from ten bits on it is 4 more. A DRW
 -- read by the word that memory has. Serves the proofs only.
-use mathlib.Core.Bool.{Bool, true, false}
+use mathlib.Core.Bool.{Bool, true, false, cond}
 use mathlib.Core.Path.{_≡_, refl, sym, ap, _∙_, subst}
 use mathlib.Core.List.{List}
 use Prim.Native.Nat.{ℕ, _+_, _-_, _*_, _/_, _%_, _^_, min, _≤_, _<_}
@@ -13,7 +13,6 @@ use Rattle.target.specs.declared.Done.{Done}
 use Rattle.target.specs.declared.Word.{Word}
 use Rattle.target.specs.declared.Word.the-variants.{Value, Absent}
 use Rattle.target.specs.declared.ApRegister.the-variants.{DrwRead}
-use Rattle.target.specs.Choice.{pick}
 use Rattle.target.specs.Memory.{inMemory, load, loaded}
 use Rattle.target.specs.MemAp.{wordAddress, advanced, failed, posted, reachAp}
 
@@ -56,7 +55,7 @@ drwRead t (Value w) = posted (advanced t) w
 drwRead t Absent = posted (failed t) 0
 
 by-word : (t : Target) (b : Bool) (v : ℕ)
-    → pick b (posted (advanced t) v) (posted (failed t) 0) ≡ drwRead t (pick b (Value v) Absent)
+    → cond b (posted (advanced t) v) (posted (failed t) 0) ≡ drwRead t (cond b (Value v) Absent)
 by-word t true v = refl
 by-word t false v = refl
 

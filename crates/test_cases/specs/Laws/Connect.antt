@@ -2,7 +2,7 @@
 -- CTRL/STAT is owed. Serves the proofs only: the polls are one induction, over the polls left and the reads owed. `connects` and
 -- `times-out` say it for every d.
 use Prim.Native.Nat.{ℕ, zero, suc, _+_, _-_, _≤_, _<_}
-use mathlib.Core.Bool.{Bool, true, false, _||_, _&&_}
+use mathlib.Core.Bool.{Bool, true, false, _||_, _&&_, cond}
 use mathlib.Core.List.{List, []}
 use mathlib.Core.Path.{_≡_, refl, sym, ap, subst, _∙_}
 use native.Mathlib.Omega.{arith}
@@ -21,10 +21,9 @@ use Rattle.wire.specs.declared.Remembered.{Remembered}
 use Rattle.wire.specs.declared.ArmError.the-variants as E
 use Rattle.wire_memap.specs.Ops.{perform}
 use Rattle.call.specs.declared.Change.the-variants as C
-use Rattle.call.specs.Job.{exec, attempt, orFail, return, fail, cond}
+use Rattle.call.specs.Job.{exec, attempt, orFail, return, fail}
 use Rattle.call_connect.specs.Connect.{connectJob, setUp, pollAcks, bothAcks, noTarget}
 use Rattle.call_connect.specs.declared.ConnectCall.the-variants as K
-use Rattle.target.specs.Choice.{pick}
 use Rattle.target.specs.DebugPort.{powered, ctrlStat}
 use Rattle.target.specs.Deliver.{fault, answerOf, reach, transfer as arrives}
 use Rattle.target.specs.Fields.{withSelect, withSticky}
@@ -75,7 +74,7 @@ abbrev polled : Bool → ℕ → ℕ → Memory → Wire
 polled acks k v m = exec (attempt (cond acks (return 0) (pollAcks k)) (orFail (λ (_ : ℕ). return v))) m
 
 no-acks : (t : Target) (n : ℕ) → bothAcks (ctrlStat (asked t (suc n))) ≡ false
-no-acks t n = ap (λ (b : Bool). bothAcks (0x10000000 + 0x40000000 + pick b 0xA0000000 0 + 0)) (ne-eqb (suc n) 0 (λ h. omega arith))
+no-acks t n = ap (λ (b : Bool). bothAcks (0x10000000 + 0x40000000 + cond b 0xA0000000 0 + 0)) (ne-eqb (suc n) 0 (λ h. omega arith))
 
 -- a poll that shows no acks yet
 ends-poll : (k n v b : ℕ) (m : Memory) (t : Target) (mem : List ℕ) (e : Ending) (count : ℕ)
@@ -112,8 +111,8 @@ dpidr-read : (t : Target) (mem : List ℕ) → line t mem (T.Transfer 2 0) Deliv
 unfolding arrives
 dpidr-read t mem = go (t .sticky)
   where
-    go : (s : Bool) → heard (answerOf (pick (s && false) (record { reply = fault; target = t; mem = mem }) (reach (Dp D.DpidrRead) t mem 0) .reply))
-        (pick (s && false) (record { reply = fault; target = t; mem = mem }) (reach (Dp D.DpidrRead) t mem 0))
+    go : (s : Bool) → heard (answerOf (cond (s && false) (record { reply = fault; target = t; mem = mem }) (reach (Dp D.DpidrRead) t mem 0) .reply))
+        (cond (s && false) (record { reply = fault; target = t; mem = mem }) (reach (Dp D.DpidrRead) t mem 0))
         ≡ record { answer = Good (t .dpidr); target = t; mem = mem }
     go true = refl
     go false = refl
@@ -127,9 +126,9 @@ abort-written : (t : Target) (mem : List ℕ) → line t mem (T.Transfer 0 0x1E)
 unfolding arrives
 abort-written t mem = go (t .sticky)
   where
-    go : (s : Bool) → heard (answerOf (pick (s && false) (record { reply = fault; target = t; mem = mem }) (reach
+    go : (s : Bool) → heard (answerOf (cond (s && false) (record { reply = fault; target = t; mem = mem }) (reach
         (Dp D.AbortWrite) t mem 0x1E) .reply))
-        (pick (s && false) (record { reply = fault; target = t; mem = mem }) (reach (Dp D.AbortWrite) t mem 0x1E))
+        (cond (s && false) (record { reply = fault; target = t; mem = mem }) (reach (Dp D.AbortWrite) t mem 0x1E))
         ≡ record { answer = Good 0; target = withSticky t false; mem = mem }
     go true = refl
     go false = refl
@@ -138,7 +137,7 @@ abort-written t mem = go (t .sticky)
 power-asked : (t : Target) (mem : List ℕ) → powered t ≡ false
     → line (withSelect (withSticky t false) 0) mem (T.Transfer 4 0x50000000) Deliver ≡ record { answer = Good 0; target = asked t (t .d); mem = mem }
 unfolding arrives
-power-asked t mem h = ap (λ (b : Bool). record { answer = Good 0; target = asked t (pick b (t .owed) (t .d)); mem = mem }) h
+power-asked t mem h = ap (λ (b : Bool). record { answer = Good 0; target = asked t (cond b (t .owed) (t .d)); mem = mem }) h
 
 -- what every connect does once DPIDR is good
 set-up-ends : (v b : ℕ) (m : Memory) (t : Target) (mem : List ℕ) (e : Ending) (count : ℕ) → powered t ≡ false
