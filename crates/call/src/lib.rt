@@ -5,7 +5,8 @@
 // What a call changes besides its transport calls: what is remembered, the row of words, the caller's buffer.
 ghost use mathlib.Core.List.{[], _∷_};
 ghost use mathlib.Core.Path.{_≡_};
-ghost use Prim.Native.Nat.{_+_, _*_, _^_, _<_, min};
+ghost use Prim.Native.Nat.{_+_, _*_, _%_, _^_, _<_, min};
+ghost use lib.Dec.{eqb};
 ghost use lib.ListN.{length, set, getD, drop};
 ghost use lib.Seq.{sets};
 ghost use Rattle.wire.specs.Wire.{memoryOf};
@@ -63,10 +64,50 @@ pub enum Change {
 // The xPSR that a function starts with: its T bit alone.
 const XPSR_THUMB: u32 = 0x01000000;
 
-// What a call asks for: an operation, or its end.
+// What comes next in a call: an operation, or its end.
 pub enum Next {
     Do(Op),
     End(Outcome),
+}
+
+// Which operation of a call is in flight: a number for group and phase, and what it goes on with. 0: its outcome is the call's.
+pub struct At {
+    pub step: u32,
+    pub a: u32,
+    pub b: u32,
+    pub c: u32,
+    pub d: u32,
+    pub e: u32,
+}
+
+// What a call asks for: a change, and then an operation or its end.
+pub struct Asks {
+    pub change: Change,
+    pub at: At,
+    pub next: Next,
+}
+
+// Each group of calls has its range of `step`, from these numbers on; calls 6 to 14 have those from 0 on.
+pub const CONNECT: u32 = 32;
+
+pub const CORE: u32 = 64;
+
+pub const FPB: u32 = 128;
+
+pub const NRF: u32 = 160;
+
+// The phase `step`, and what it goes on with.
+pub fn at_step(step: u32, a: u32, b: u32, c: u32, d: u32, e: u32) -> At
+    ensures { λ r. ⌜ r ≡ record { step = step; a = a; b = b; c = c; d = d; e = e } ⌝ }
+{
+    At {
+        step: step,
+        a: a,
+        b: b,
+        c: c,
+        d: d,
+        e: e,
+    }
 }
 
 // A new engine knows nothing of the target.
@@ -144,11 +185,21 @@ fn least(a: usize, b: usize) -> usize
     b
 }
 
-// A byte as a word.
-fn wide(x: u8) -> u32
-    ensures { λ r. ⌜ r ≡ x ⌝ }
+// A byte as a word, which is that byte again.
+pub fn wide(x: u8) -> u32
+    ensures { λ r. ⌜ (r ≡ x) × (r % 256 ≡ x) ⌝ }
 {
     x as u32
+}
+
+// A flag as a word: 1 where it stands.
+pub fn flag(b: bool) -> u32
+    ensures { λ r. ⌜ eqb r 1 ≡ b ⌝ }
+{
+    if b {
+        return 1;
+    }
+    0
 }
 
 // The bytes of a word, lowest first.

@@ -4,10 +4,12 @@
 
 // Calls 1 to 5: connecting to a target. Each function says what a connect asks for next; none of them touches the line.
 ghost use mathlib.Core.Path.{_≡_};
-ghost use Rattle.call.specs.Laws.Asks.{asks, opThen};
+ghost use Rattle.call.specs.Laws.Asks.{asks, keepSome, opThen};
 ghost use Rattle.call.specs.Job.{ends};
 ghost use Rattle.call_connect.specs.Connect.{connectJob, parity, noTarget};
-ghost use Rattle.call_connect.specs.Laws.After.{connectAfter, goesOn, swdLine, multidropLine, line, nth, lineFrom, identified, polled, afterPoll};
+ghost use Rattle.call_connect.specs.Laws.After.{connectAfter, phaseAfter, connectAtOf, howOf, goesOn, swdLine, multidropLine, line, nth, lineFrom, identified, polled, afterPoll};
+use call::Asks;
+use call::At;
 use call::Change;
 use call::Next;
 use wire::ArmError;
@@ -40,12 +42,6 @@ pub enum ConnectAt {
     Power(u32),
     Poll { dpidr: u32, left: u32 },
     Pulse,
-}
-
-pub struct ConnectAsks {
-    pub change: Change,
-    pub at: ConnectAt,
-    pub next: Next,
 }
 
 // The debug port's registers.
@@ -139,30 +135,101 @@ fn line_call(how: How, n: u32, targetsel: u32) -> Call
     }
 }
 
+// What a DPIDR is read for, as a number.
+fn how_number(how: How) -> u32
+    ensures { λ r. ⌜ howOf r ≡ how ⌝ }
+{
+    match how {
+        How::Probe => 0,
+        How::Swd => 1,
+        How::Multidrop => 2,
+    }
+}
+
+fn how_of(n: u32) -> How
+    ensures { λ r. ⌜ r ≡ howOf n ⌝ }
+{
+    match n {
+        0 => How::Probe,
+        1 => How::Swd,
+        _ => How::Multidrop,
+    }
+}
+
+// Which operation is in flight, in numbers.
+fn pack(p: ConnectAt) -> At
+    ensures { λ r. ⌜ connectAtOf r ≡ p ⌝ }
+{
+    match p {
+        ConnectAt::Line {
+            how,
+            left,
+            targetsel,
+        } => call::at_step(call::CONNECT, how_number(how), left, targetsel, 0, 0),
+        ConnectAt::Dpidr(how) => call::at_step(call::CONNECT + 1, how_number(how), 0, 0, 0, 0),
+        ConnectAt::Abort(dpidr) => call::at_step(call::CONNECT + 2, dpidr, 0, 0, 0, 0),
+        ConnectAt::Select(dpidr) => call::at_step(call::CONNECT + 3, dpidr, 0, 0, 0, 0),
+        ConnectAt::Power(dpidr) => call::at_step(call::CONNECT + 4, dpidr, 0, 0, 0, 0),
+        ConnectAt::Poll { dpidr, left } => call::at_step(call::CONNECT + 5, dpidr, left, 0, 0, 0),
+        ConnectAt::Pulse => call::at_step(call::CONNECT + 6, 0, 0, 0, 0, 0),
+    }
+}
+
+// Which operation is in flight.
+fn unpack(at: At) -> ConnectAt
+    ensures { λ r. ⌜ r ≡ connectAtOf at ⌝ }
+{
+    let n = at.step % 32;
+    match n {
+        0 => ConnectAt::Line {
+            how: how_of(at.a),
+            left: at.b,
+            targetsel: at.c,
+        },
+        1 => ConnectAt::Dpidr(how_of(at.a)),
+        2 => ConnectAt::Abort(at.a),
+        3 => ConnectAt::Select(at.a),
+        4 => ConnectAt::Power(at.a),
+        5 => ConnectAt::Poll {
+            dpidr: at.a,
+            left: at.b,
+        },
+        _ => ConnectAt::Pulse,
+    }
+}
+
 // The call is over.
-fn ended(o: Outcome) -> ConnectAsks
+fn ended(o: Outcome) -> Asks
     ensures { λ r. ⌜ ends o ≡ asks (r .change) (r .next) (connectAfter (r .at)) ⌝ }
 {
-    ConnectAsks {
+    Asks {
         change: Change::Nothing,
-        at: ConnectAt::Pulse,
+        at: call::at_step(0, 0, 0, 0, 0, 0),
         next: Next::End(o),
     }
 }
 
-// The operation `op`, and nothing is changed before it.
-fn doing(at: ConnectAt, op: Op) -> ConnectAsks
-    ensures { λ r. ⌜ opThen op (connectAfter at) ≡ asks (r .change) (r .next) (connectAfter (r .at)) ⌝ }
+// The operation `op`, after a change.
+fn changing(change: Change, at: ConnectAt, op: Op) -> Asks
+    ensures { λ r. ⌜ keepSome change (opThen op (phaseAfter at)) ≡ asks (r .change) (r .next) (connectAfter (r .at)) ⌝ }
 {
-    ConnectAsks {
-        change: Change::Nothing,
-        at: at,
+    let numbers = pack(at);
+    Asks {
+        change: change,
+        at: numbers,
         next: Next::Do(op),
     }
 }
 
+// The operation `op`, and nothing is changed before it.
+fn doing(at: ConnectAt, op: Op) -> Asks
+    ensures { λ r. ⌜ opThen op (phaseAfter at) ≡ asks (r .change) (r .next) (connectAfter (r .at)) ⌝ }
+{
+    changing(Change::Nothing, at, op)
+}
+
 // `left` more calls that are no transfers, and then DPIDR.
-fn line_on(how: How, left: u32, targetsel: u32) -> ConnectAsks
+fn line_on(how: How, left: u32, targetsel: u32) -> Asks
     ensures { λ r. ⌜ lineFrom how targetsel left ≡ asks (r .change) (r .next) (connectAfter (r .at)) ⌝ }
 {
     if left == 0 {
@@ -187,33 +254,25 @@ fn no_target(v: u32) -> bool
 }
 
 // DPIDR is read: no target, the end of a probe, or the set-up that every connect does.
-fn identified_by(how: How, v: u32) -> ConnectAsks
+fn identified_by(how: How, v: u32) -> Asks
     ensures { λ r. ⌜ identified how v ≡ asks (r .change) (r .next) (connectAfter (r .at)) ⌝ }
 {
     if no_target(v) {
         return ended(Outcome::Failed(ArmError::NoTarget));
     }
-    let abort = Next::Do(Op::DpWrite {
+    let abort = Op::DpWrite {
         addr: ABORT,
         word: ABORT_CLEAR_ALL,
-    });
+    };
     match how {
         How::Probe => ended(Outcome::Value(v)),
-        How::Swd => ConnectAsks {
-            change: Change::New,
-            at: ConnectAt::Abort(v),
-            next: abort,
-        },
-        How::Multidrop => ConnectAsks {
-            change: Change::Forget,
-            at: ConnectAt::Abort(v),
-            next: abort,
-        },
+        How::Swd => changing(Change::New, ConnectAt::Abort(v), abort),
+        How::Multidrop => changing(Change::Forget, ConnectAt::Abort(v), abort),
     }
 }
 
 // `left` more reads of CTRL/STAT.
-fn poll_on(dpidr: u32, left: u32) -> ConnectAsks
+fn poll_on(dpidr: u32, left: u32) -> Asks
     ensures { λ r. ⌜ polled dpidr left ≡ asks (r .change) (r .next) (connectAfter (r .at)) ⌝ }
 {
     if left == 0 {
@@ -229,7 +288,7 @@ fn poll_on(dpidr: u32, left: u32) -> ConnectAsks
 }
 
 // CTRL/STAT is read: CDBGPWRUPACK and CSYSPWRUPACK stand, or it is read again.
-fn polled_by(dpidr: u32, left: u32, v: u32) -> ConnectAsks
+fn polled_by(dpidr: u32, left: u32, v: u32) -> Asks
     ensures { λ r. ⌜ afterPoll dpidr left v ≡ asks (r .change) (r .next) (connectAfter (r .at)) ⌝ }
 {
     if v / CDBGPWRUPACK % 2 + v / CSYSPWRUPACK % 2 == 2 {
@@ -239,7 +298,7 @@ fn polled_by(dpidr: u32, left: u32, v: u32) -> ConnectAsks
 }
 
 // What follows an operation of a connect that gave the value `v`.
-fn value_after(p: ConnectAt, v: u32) -> ConnectAsks
+fn value_after(p: ConnectAt, v: u32) -> Asks
     ensures { λ r. ⌜ goesOn p v ≡ asks (r .change) (r .next) (connectAfter (r .at)) ⌝ }
 {
     match p {
@@ -256,17 +315,14 @@ fn value_after(p: ConnectAt, v: u32) -> ConnectAsks
                 word: 0,
             },
         ),
-        ConnectAt::Select(dpidr) => {
-            let power = Next::Do(Op::DpWrite {
+        ConnectAt::Select(dpidr) => changing(
+            Change::SelectZero,
+            ConnectAt::Power(dpidr),
+            Op::DpWrite {
                 addr: CTRL_STAT,
                 word: CDBGPWRUPREQ + CSYSPWRUPREQ,
-            });
-            ConnectAsks {
-                change: Change::SelectZero,
-                at: ConnectAt::Power(dpidr),
-                next: power,
-            }
-        }
+            },
+        ),
         ConnectAt::Power(dpidr) => poll_on(dpidr, POLLS),
         ConnectAt::Poll { dpidr, left } => polled_by(dpidr, left, v),
         ConnectAt::Pulse => ended(Outcome::Value(0)),
@@ -274,7 +330,7 @@ fn value_after(p: ConnectAt, v: u32) -> ConnectAsks
 }
 
 // The first operation of each call. Before DPIDR a multidrop connect makes 15 transport calls, a plain one 6, and a reselect the last 7 of the 15.
-pub fn start(c: ConnectCall) -> ConnectAsks
+pub fn start(c: ConnectCall) -> Asks
     ensures { λ r. ⌜ connectJob c ≡ asks (r .change) (r .next) (connectAfter (r .at)) ⌝ }
 {
     match c {
@@ -294,11 +350,11 @@ pub fn start(c: ConnectCall) -> ConnectAsks
 }
 
 // What follows an operation of a connect, by its outcome: an error ends the call.
-pub fn call_after(p: ConnectAt, o: Outcome) -> ConnectAsks
-    ensures { λ r. ⌜ connectAfter p o ≡ asks (r .change) (r .next) (connectAfter (r .at)) ⌝ }
+pub fn call_after(at: At, o: Outcome) -> Asks
+    ensures { λ r. ⌜ connectAfter at o ≡ asks (r .change) (r .next) (connectAfter (r .at)) ⌝ }
 {
     match o {
-        Outcome::Value(v) => value_after(p, v),
+        Outcome::Value(v) => value_after(unpack(at), v),
         Outcome::Failed(e) => ended(Outcome::Failed(e)),
     }
 }

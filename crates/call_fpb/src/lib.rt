@@ -8,10 +8,13 @@ ghost use Prim.Native.Nat.{_-_};
 ghost use Rattle.call.specs.Laws.Asks.{asks, opThen};
 ghost use Rattle.call.specs.Job.{ends};
 ghost use Rattle.call_fpb.specs.Breakpoint.{fpbJob, numCode, revision, fpbCompValue, breakable, comparator, firstFree, takeFree, seek, find};
-ghost use Rattle.call_fpb.specs.Laws.After.{fpbAfter, goesOn, found, enabling, counting, afterSeek, afterFind};
+ghost use Rattle.call_fpb.specs.Laws.After.{fpbAfter, phaseAfter, fpbAtOf, goesOn, found, enabling, counting, afterSeek, afterFind};
+ghost use Rattle.call_fpb.specs.declared.FpbAt.the-variants.{Seek};
 
 mod fpb;
 
+use call::Asks;
+use call::At;
 use call::Change;
 use call::Next;
 use wire::Outcome;
@@ -66,12 +69,6 @@ pub enum FpbAt {
     Write,
 }
 
-pub struct FpbAsks {
-    pub change: Change,
-    pub at: FpbAt,
-    pub next: Next,
-}
-
 // How many comparators FP_CTRL says there are: bits 14:12 and 7:4.
 fn num_code(ctrl: u32) -> u8
     ensures { λ r. ⌜ r ≡ numCode ctrl ⌝ }
@@ -109,30 +106,131 @@ fn comparator_at(i: u8) -> u32
     fpb::FP_COMP0 + 4 * (i as u32)
 }
 
+// A search for a comparator, in numbers.
+fn pack_seek(value: u32, n: u8, left: u8, free: Free) -> At
+    ensures { λ r. ⌜ fpbAtOf r ≡ Seek value n left free ⌝ }
+{
+    let n = call::wide(n);
+    let left = call::wide(left);
+    match free {
+        Free::Nowhere => call::at_step(call::FPB + 2, value, n, left, 0, 0),
+        Free::At(i) => call::at_step(call::FPB + 3, value, n, left, call::wide(i), 0),
+    }
+}
+
+// Which operation is in flight, in numbers.
+fn pack(p: FpbAt) -> At
+    ensures { λ r. ⌜ fpbAtOf r ≡ p ⌝ }
+{
+    match p {
+        FpbAt::SetCtrl(addr) => call::at_step(call::FPB, addr, 0, 0, 0, 0),
+        FpbAt::Enable { value, n } => call::at_step(call::FPB + 1, value, call::wide(n), 0, 0, 0),
+        FpbAt::Seek {
+            value,
+            n,
+            left,
+            free,
+        } => pack_seek(value, n, left, free),
+        FpbAt::Revision { clears, addr } => call::at_step(
+            call::FPB + 4,
+            addr,
+            0,
+            0,
+            call::flag(clears),
+            0,
+        ),
+        FpbAt::Count { clears, value } => call::at_step(
+            call::FPB + 5,
+            value,
+            0,
+            0,
+            call::flag(clears),
+            0,
+        ),
+        FpbAt::Find {
+            clears,
+            value,
+            n,
+            left,
+        } => call::at_step(
+            call::FPB + 6,
+            value,
+            call::wide(n),
+            call::wide(left),
+            call::flag(clears),
+            0,
+        ),
+        FpbAt::Write => call::at_step(call::FPB + 7, 0, 0, 0, 0, 0),
+    }
+}
+
+// Which operation is in flight.
+fn unpack(at: At) -> FpbAt
+    ensures { λ r. ⌜ r ≡ fpbAtOf at ⌝ }
+{
+    let value = at.a;
+    let n = (at.b % 256) as u8;
+    let left = (at.c % 256) as u8;
+    let i = (at.d % 256) as u8;
+    let clears = at.d == 1;
+    let phase = at.step % 32;
+    match phase {
+        0 => FpbAt::SetCtrl(value),
+        1 => FpbAt::Enable { value: value, n: n },
+        2 => FpbAt::Seek {
+            value: value,
+            n: n,
+            left: left,
+            free: Free::Nowhere,
+        },
+        3 => FpbAt::Seek {
+            value: value,
+            n: n,
+            left: left,
+            free: Free::At(i),
+        },
+        4 => FpbAt::Revision {
+            clears: clears,
+            addr: value,
+        },
+        5 => FpbAt::Count {
+            clears: clears,
+            value: value,
+        },
+        6 => FpbAt::Find {
+            clears: clears,
+            value: value,
+            n: n,
+            left: left,
+        },
+        _ => FpbAt::Write,
+    }
+}
+
 // The call ends.
-fn ended(o: Outcome) -> FpbAsks
+fn ended(o: Outcome) -> Asks
     ensures { λ r. ⌜ ends o ≡ asks (r .change) (r .next) (fpbAfter (r .at)) ⌝ }
 {
-    FpbAsks {
+    Asks {
         change: Change::Nothing,
-        at: FpbAt::Write,
+        at: call::at_step(0, 0, 0, 0, 0, 0),
         next: Next::End(o),
     }
 }
 
 // The operation `op`.
-fn doing(at: FpbAt, op: Op) -> FpbAsks
-    ensures { λ r. ⌜ opThen op (fpbAfter at) ≡ asks (r .change) (r .next) (fpbAfter (r .at)) ⌝ }
+fn doing(at: FpbAt, op: Op) -> Asks
+    ensures { λ r. ⌜ opThen op (phaseAfter at) ≡ asks (r .change) (r .next) (fpbAfter (r .at)) ⌝ }
 {
-    FpbAsks {
+    Asks {
         change: Change::Nothing,
-        at: at,
+        at: pack(at),
         next: Next::Do(op),
     }
 }
 
 // With no comparator the answer is no. Else the unit is enabled.
-fn enable(ctrl: u32, value: u32) -> FpbAsks
+fn enable(ctrl: u32, value: u32) -> Asks
     ensures { λ r. ⌜ enabling ctrl value ≡ asks (r .change) (r .next) (fpbAfter (r .at)) ⌝ }
 {
     let n = num_code(ctrl);
@@ -147,7 +245,7 @@ fn enable(ctrl: u32, value: u32) -> FpbAsks
 }
 
 // FP_CTRL is read to set a breakpoint.
-fn set_on(addr: u32, ctrl: u32) -> FpbAsks
+fn set_on(addr: u32, ctrl: u32) -> Asks
     ensures { λ r. ⌜ breakable (fpbCompValue addr (revision ctrl)) (enabling ctrl) ≡ asks (r .change) (r .next) (fpbAfter (r .at)) ⌝ }
 {
     let comp = fpb_comp_value(addr, ctrl / 0x10000000 % 16);
@@ -158,7 +256,7 @@ fn set_on(addr: u32, ctrl: u32) -> FpbAsks
 }
 
 // All comparators are looked at: the free one takes the value.
-fn take_free(value: u32, free: Free) -> FpbAsks
+fn take_free(value: u32, free: Free) -> Asks
     ensures { λ r. ⌜ takeFree value free ≡ asks (r .change) (r .next) (fpbAfter (r .at)) ⌝ }
 {
     match free {
@@ -177,7 +275,7 @@ fn take_free(value: u32, free: Free) -> FpbAsks
 }
 
 // `left` comparators to go, of n.
-fn seek_on(value: u32, n: u8, left: u8, free: Free) -> FpbAsks
+fn seek_on(value: u32, n: u8, left: u8, free: Free) -> Asks
     ensures { λ r. ⌜ seek value n left free ≡ asks (r .change) (r .next) (fpbAfter (r .at)) ⌝ }
 {
     if left == 0 {
@@ -211,7 +309,7 @@ fn first_free(free: Free, i: u8, comp: u32) -> Free
 }
 
 // A comparator is read: it holds the value already, or the search goes on.
-fn seek_by(value: u32, n: u8, left: u8, free: Free, comp: u32) -> FpbAsks
+fn seek_by(value: u32, n: u8, left: u8, free: Free, comp: u32) -> Asks
     ensures { λ r. ⌜ afterSeek value n left free comp ≡ asks (r .change) (r .next) (fpbAfter (r .at)) ⌝ }
 {
     if comp == value {
@@ -222,7 +320,7 @@ fn seek_by(value: u32, n: u8, left: u8, free: Free, comp: u32) -> FpbAsks
 }
 
 // FP_CTRL is read for its revision.
-fn revision_on(clears: bool, addr: u32, ctrl: u32) -> FpbAsks
+fn revision_on(clears: bool, addr: u32, ctrl: u32) -> Asks
     ensures { λ r. ⌜ breakable (fpbCompValue addr (revision ctrl)) (counting clears) ≡ asks (r .change) (r .next) (fpbAfter (r .at)) ⌝ }
 {
     let comp = fpb_comp_value(addr, ctrl / 0x10000000 % 16);
@@ -239,7 +337,7 @@ fn revision_on(clears: bool, addr: u32, ctrl: u32) -> FpbAsks
 }
 
 // `left` comparators to go, of n.
-fn find_on(clears: bool, value: u32, n: u8, left: u8) -> FpbAsks
+fn find_on(clears: bool, value: u32, n: u8, left: u8) -> Asks
     ensures { λ r. ⌜ find (found clears) value n left ≡ asks (r .change) (r .next) (fpbAfter (r .at)) ⌝ }
 {
     if left == 0 {
@@ -258,7 +356,7 @@ fn find_on(clears: bool, value: u32, n: u8, left: u8) -> FpbAsks
 }
 
 // A comparator is read: it holds the value, or the search goes on.
-fn find_by(clears: bool, value: u32, n: u8, left: u8, comp: u32) -> FpbAsks
+fn find_by(clears: bool, value: u32, n: u8, left: u8, comp: u32) -> Asks
     ensures { λ r. ⌜ afterFind clears value n left comp ≡ asks (r .change) (r .next) (fpbAfter (r .at)) ⌝ }
 {
     if comp != value {
@@ -278,7 +376,7 @@ fn find_by(clears: bool, value: u32, n: u8, left: u8, comp: u32) -> FpbAsks
 }
 
 // What follows an operation that gave the value `v`.
-fn value_after(p: FpbAt, v: u32) -> FpbAsks
+fn value_after(p: FpbAt, v: u32) -> Asks
     ensures { λ r. ⌜ goesOn p v ≡ asks (r .change) (r .next) (fpbAfter (r .at)) ⌝ }
 {
     match p {
@@ -306,7 +404,7 @@ fn value_after(p: FpbAt, v: u32) -> FpbAsks
 }
 
 // What a call asks for first: every one reads FP_CTRL.
-pub fn start(c: FpbCall) -> FpbAsks
+pub fn start(c: FpbCall) -> Asks
     ensures { λ r. ⌜ fpbJob c ≡ asks (r .change) (r .next) (fpbAfter (r .at)) ⌝ }
 {
     match c {
@@ -332,11 +430,11 @@ pub fn start(c: FpbCall) -> FpbAsks
 }
 
 // What a call in flight asks for, now that its operation has ended: an error ends the call.
-pub fn call_after(p: FpbAt, o: Outcome) -> FpbAsks
-    ensures { λ r. ⌜ fpbAfter p o ≡ asks (r .change) (r .next) (fpbAfter (r .at)) ⌝ }
+pub fn call_after(at: At, o: Outcome) -> Asks
+    ensures { λ r. ⌜ fpbAfter at o ≡ asks (r .change) (r .next) (fpbAfter (r .at)) ⌝ }
 {
     match o {
-        Outcome::Value(v) => value_after(p, v),
+        Outcome::Value(v) => value_after(unpack(at), v),
         Outcome::Failed(e) => ended(Outcome::Failed(e)),
     }
 }

@@ -8,12 +8,15 @@ ghost use mathlib.Core.Path.{_≡_};
 ghost use Prim.Native.Nat.{_-_, _*_, min};
 ghost use lib.Dec.{leb};
 ghost use Rattle.call.specs.Job.{ends, just};
-ghost use Rattle.call.specs.Laws.Asks.{asks, keepSome};
+ghost use Rattle.call.specs.Laws.Asks.{asks, keepSome, opThen};
 ghost use Rattle.call.specs.declared.Change.the-variants.{Nothing};
 ghost use Rattle.call_memory.specs.Memory.{memoryJob, readWords, writeWords, inRange, mem, memFrom, moveRun, moveBytes, runWords};
-ghost use Rattle.call_memory.specs.Laws.After.{memoryAfter, goesOn, addrOf, placeOf, rest};
+ghost use Rattle.call_memory.specs.Laws.After.{memoryAfter, phaseAfter, memoryAtOf, turnOf, goesOn, addrOf, placeOf, rest};
+ghost use Rattle.call_memory.specs.declared.Mem.{Mem};
 ghost use Rattle.call_memory.specs.declared.MemoryAt.the-variants.{Turn};
 ghost use Rattle.call_memory.specs.declared.TurnStep.the-variants.{ReadRun, ReadPart, PartRead};
+use call::Asks;
+use call::At;
 use call::Change;
 use call::Next;
 use wire::ArmError;
@@ -58,13 +61,6 @@ pub enum MemoryAt {
     Turn { step: TurnStep, mem: Mem },
 }
 
-// What a call asks for: a change, and then an operation or its end.
-pub struct MemoryAsks {
-    pub change: Change,
-    pub at: MemoryAt,
-    pub next: Next,
-}
-
 // As many addresses as a target has: 2^32.
 const ADDRESSES: usize = 0x100000000;
 
@@ -94,30 +90,99 @@ fn run_words(addr: u32, words: u32) -> u32
     smaller(smaller((1024 - addr % 1024) / 4, words), 64)
 }
 
+// A turn's step as a number from 1 on.
+fn step_number(step: TurnStep) -> u32
+    ensures { λ r. ⌜ ((m : Mem) → turnOf r m ≡ Turn step m) ⌝ }
+{
+    match step {
+        TurnStep::ReadRun => 1,
+        TurnStep::ReadPart => 2,
+        TurnStep::WriteRun => 3,
+        TurnStep::PartRead => 4,
+        TurnStep::PartWritten => 5,
+    }
+}
+
+// The operation of a turn that is in flight, in numbers.
+fn pack(step: TurnStep, m: Mem) -> At
+    ensures { λ r. ⌜ memoryAtOf r ≡ Turn step m ⌝ }
+{
+    call::at_step(step_number(step), m.stop, m.len, m.left, m.size, 0)
+}
+
+// Which operation is in flight.
+fn unpack(at: At) -> MemoryAt
+    ensures { λ r. ⌜ r ≡ memoryAtOf at ⌝ }
+{
+    let m = Mem {
+        stop: at.a,
+        len: at.b,
+        left: at.c,
+        size: at.d,
+    };
+    let n = at.step;
+    match n {
+        0 => MemoryAt::Whole,
+        1 => MemoryAt::Turn {
+            step: TurnStep::ReadRun,
+            mem: m,
+        },
+        2 => MemoryAt::Turn {
+            step: TurnStep::ReadPart,
+            mem: m,
+        },
+        3 => MemoryAt::Turn {
+            step: TurnStep::WriteRun,
+            mem: m,
+        },
+        4 => MemoryAt::Turn {
+            step: TurnStep::PartRead,
+            mem: m,
+        },
+        _ => MemoryAt::Turn {
+            step: TurnStep::PartWritten,
+            mem: m,
+        },
+    }
+}
+
 // The call ends.
-fn ended(o: Outcome) -> MemoryAsks
+fn ended(o: Outcome) -> Asks
     ensures { λ r. ⌜ ends o ≡ asks (r .change) (r .next) (memoryAfter (r .at)) ⌝ }
 {
-    MemoryAsks {
+    Asks {
         change: Change::Nothing,
-        at: MemoryAt::Whole,
+        at: call::at_step(0, 0, 0, 0, 0, 0),
         next: Next::End(o),
     }
 }
 
 // An operation whose outcome is the call's.
-fn whole(op: Op) -> MemoryAsks
+fn whole(op: Op) -> Asks
     ensures { λ r. ⌜ just op ≡ asks (r .change) (r .next) (memoryAfter (r .at)) ⌝ }
 {
-    MemoryAsks {
+    Asks {
         change: Change::Nothing,
-        at: MemoryAt::Whole,
+        at: call::at_step(0, 0, 0, 0, 0, 0),
+        next: Next::Do(op),
+    }
+}
+
+// A turn's operation, after a change.
+fn moving(change: Change, step: TurnStep, m: Mem, op: Op) -> Asks
+    ensures { λ r. ⌜ keepSome change (opThen op (phaseAfter (Turn step m))) ≡ asks (r .change) (r .next) (memoryAfter (r .at)) ⌝ }
+    ensures { λ r. ⌜ r .change ≡ change ⌝ }
+{
+    let at = pack(step, m);
+    Asks {
+        change: change,
+        at: at,
         next: Next::Do(op),
     }
 }
 
 // A turn that moves whole words. To be written, they are loaded first.
-fn move_run(read: bool, m: Mem) -> MemoryAsks
+fn move_run(read: bool, m: Mem) -> Asks
     ensures { λ r. ⌜ moveRun read (addrOf m) (placeOf m) (m .size) (rest read m) ≡ asks (r .change) (r .next) (memoryAfter (r .at)) ⌝ }
     ensures { λ r. ⌜ (read ≡ true → r .change ≡ Nothing) ⌝ }
 {
@@ -130,14 +195,7 @@ fn move_run(read: bool, m: Mem) -> MemoryAsks
             n: n,
             last: last,
         };
-        return MemoryAsks {
-            change: Change::Nothing,
-            at: MemoryAt::Turn {
-                step: TurnStep::ReadRun,
-                mem: m,
-            },
-            next: Next::Do(op),
-        };
+        return moving(Change::Nothing, TurnStep::ReadRun, m, op);
     }
     let load = Change::LoadWords {
         at: wire_memap::minus(m.len, m.left),
@@ -148,18 +206,11 @@ fn move_run(read: bool, m: Mem) -> MemoryAsks
         n: n,
         last: last,
     };
-    MemoryAsks {
-        change: load,
-        at: MemoryAt::Turn {
-            step: TurnStep::WriteRun,
-            mem: m,
-        },
-        next: Next::Do(op),
-    }
+    moving(load, TurnStep::WriteRun, m, op)
 }
 
 // A turn that moves a part of a word. To be written too, the word is read first.
-fn move_bytes(read: bool, m: Mem) -> MemoryAsks
+fn move_bytes(read: bool, m: Mem) -> Asks
     ensures { λ r. ⌜ moveBytes read (addrOf m) (placeOf m) (m .size) (rest read m) ≡ asks (r .change) (r .next) (memoryAfter (r .at)) ⌝ }
     ensures { λ r. ⌜ (read ≡ true → r .change ≡ Nothing) ⌝ }
 {
@@ -168,34 +219,20 @@ fn move_bytes(read: bool, m: Mem) -> MemoryAsks
         addr: addr - addr % 4,
     };
     if read {
-        return MemoryAsks {
-            change: Change::Nothing,
-            at: MemoryAt::Turn {
-                step: TurnStep::ReadPart,
-                mem: m,
-            },
-            next: Next::Do(op),
-        };
+        return moving(Change::Nothing, TurnStep::ReadPart, m, op);
     }
-    MemoryAsks {
-        change: Change::Nothing,
-        at: MemoryAt::Turn {
-            step: TurnStep::PartRead,
-            mem: m,
-        },
-        next: Next::Do(op),
-    }
+    moving(Change::Nothing, TurnStep::PartRead, m, op)
 }
 
 // The turn with `left` bytes to go. One that reads changes nothing before its operation.
-fn mem_on(read: bool, stop: u32, len: u32, left: u32) -> MemoryAsks
+fn mem_on(read: bool, stop: u32, len: u32, left: u32) -> Asks
     ensures { λ r. ⌜ memFrom read stop len left 0 ≡ asks (r .change) (r .next) (memoryAfter (r .at)) ⌝ }
     ensures { λ r. ⌜ (read ≡ true → r .change ≡ Nothing) ⌝ }
 {
     if left == 0 {
-        return MemoryAsks {
+        return Asks {
             change: Change::Nothing,
-            at: MemoryAt::Whole,
+            at: call::at_step(0, 0, 0, 0, 0, 0),
             next: Next::End(Outcome::Value(0)),
         };
     }
@@ -224,7 +261,7 @@ fn mem_on(read: bool, stop: u32, len: u32, left: u32) -> MemoryAsks
     )
 }
 
-fn read_words(addr: u32, words: usize) -> MemoryAsks
+fn read_words(addr: u32, words: usize) -> Asks
     ensures { λ r. ⌜ inRange (leb 0x100000000 words) (readWords addr words) ≡ asks (r .change) (r .next) (memoryAfter (r .at)) ⌝ }
 {
     if ADDRESSES <= words {
@@ -238,7 +275,7 @@ fn read_words(addr: u32, words: usize) -> MemoryAsks
     })
 }
 
-fn write_words(addr: u32, words: usize) -> MemoryAsks
+fn write_words(addr: u32, words: usize) -> Asks
     ensures { λ r. ⌜ inRange (leb 0x100000000 words) (writeWords addr words) ≡ asks (r .change) (r .next) (memoryAfter (r .at)) ⌝ }
 {
     if ADDRESSES <= words {
@@ -256,7 +293,7 @@ fn write_words(addr: u32, words: usize) -> MemoryAsks
 }
 
 // read_mem or write_mem of `bytes` bytes.
-fn start_mem(read: bool, addr: u32, bytes: usize) -> MemoryAsks
+fn start_mem(read: bool, addr: u32, bytes: usize) -> Asks
     ensures { λ r. ⌜ mem read addr bytes ≡ asks (r .change) (r .next) (memoryAfter (r .at)) ⌝ }
 {
     if ADDRESSES <= bytes {
@@ -270,13 +307,13 @@ fn start_mem(read: bool, addr: u32, bytes: usize) -> MemoryAsks
 }
 
 // What a call asks for first.
-pub fn start(c: MemoryCall, words: usize, bytes: usize) -> MemoryAsks
+pub fn start(c: MemoryCall, words: usize, bytes: usize) -> Asks
     ensures { λ r. ⌜ memoryJob c words bytes ≡ asks (r .change) (r .next) (memoryAfter (r .at)) ⌝ }
 {
     match c {
-        MemoryCall::SetApsel(apsel) => MemoryAsks {
+        MemoryCall::SetApsel(apsel) => Asks {
             change: Change::Apsel(apsel),
-            at: MemoryAt::Whole,
+            at: call::at_step(0, 0, 0, 0, 0, 0),
             next: Next::End(Outcome::Value(0)),
         },
         MemoryCall::ApRegRead(addr) => whole(Op::ApRead { addr: addr }),
@@ -297,13 +334,13 @@ pub fn start(c: MemoryCall, words: usize, bytes: usize) -> MemoryAsks
 }
 
 // A change, and then reading goes on with `left` bytes to go.
-fn stored(change: Change, stop: u32, len: u32, left: u32) -> MemoryAsks
+fn stored(change: Change, stop: u32, len: u32, left: u32) -> Asks
     ensures { λ r. ⌜ keepSome change (memFrom true stop len left 0) ≡ asks (r .change) (r .next) (memoryAfter (r .at)) ⌝ }
 {
     let turn = mem_on(true, stop, len, left);
     let at = turn.at;
     let next = turn.next;
-    MemoryAsks {
+    Asks {
         change: change,
         at: at,
         next: next,
@@ -311,7 +348,7 @@ fn stored(change: Change, stop: u32, len: u32, left: u32) -> MemoryAsks
 }
 
 // The words that a run has read are stored.
-fn run_read(m: Mem) -> MemoryAsks
+fn run_read(m: Mem) -> Asks
     ensures { λ r. ⌜ goesOn (Turn ReadRun m) 0 ≡ asks (r .change) (r .next) (memoryAfter (r .at)) ⌝ }
 {
     let place = wire_memap::minus(m.len, m.left);
@@ -327,7 +364,7 @@ fn run_read(m: Mem) -> MemoryAsks
 }
 
 // A part of the word that was read is stored.
-fn part_read(m: Mem, word: u32) -> MemoryAsks
+fn part_read(m: Mem, word: u32) -> Asks
     ensures { λ r. ⌜ goesOn (Turn ReadPart m) word ≡ asks (r .change) (r .next) (memoryAfter (r .at)) ⌝ }
 {
     let skip = wire_memap::minus(m.stop, m.left) % 4;
@@ -346,7 +383,7 @@ fn part_read(m: Mem, word: u32) -> MemoryAsks
 }
 
 // A part of the word that was read is replaced, and the word is written back.
-fn patched(m: Mem, word: u32) -> MemoryAsks
+fn patched(m: Mem, word: u32) -> Asks
     ensures { λ r. ⌜ goesOn (Turn PartRead m) word ≡ asks (r .change) (r .next) (memoryAfter (r .at)) ⌝ }
 {
     let addr = wire_memap::minus(m.stop, m.left);
@@ -363,18 +400,11 @@ fn patched(m: Mem, word: u32) -> MemoryAsks
         n: 1,
         last: 0,
     };
-    MemoryAsks {
-        change: patch,
-        at: MemoryAt::Turn {
-            step: TurnStep::PartWritten,
-            mem: m,
-        },
-        next: Next::Do(op),
-    }
+    moving(patch, TurnStep::PartWritten, m, op)
 }
 
 // What follows a turn's operation that gave the value `v`.
-fn turn_after(step: TurnStep, m: Mem, v: u32) -> MemoryAsks
+fn turn_after(step: TurnStep, m: Mem, v: u32) -> Asks
     ensures { λ r. ⌜ goesOn (Turn step m) v ≡ asks (r .change) (r .next) (memoryAfter (r .at)) ⌝ }
 {
     match step {
@@ -387,14 +417,17 @@ fn turn_after(step: TurnStep, m: Mem, v: u32) -> MemoryAsks
 }
 
 // What a call in flight asks for, now that its operation has ended.
-pub fn call_after(p: MemoryAt, o: Outcome) -> MemoryAsks
-    ensures { λ r. ⌜ memoryAfter p o ≡ asks (r .change) (r .next) (memoryAfter (r .at)) ⌝ }
+pub fn call_after(at: At, o: Outcome) -> Asks
+    ensures { λ r. ⌜ memoryAfter at o ≡ asks (r .change) (r .next) (memoryAfter (r .at)) ⌝ }
 {
     match o {
         Outcome::Failed(e) => ended(Outcome::Failed(e)),
-        Outcome::Value(v) => match p {
-            MemoryAt::Whole => ended(Outcome::Value(v)),
-            MemoryAt::Turn { step, mem } => turn_after(step, mem, v),
-        },
+        Outcome::Value(v) => {
+            let p = unpack(at);
+            match p {
+                MemoryAt::Whole => ended(Outcome::Value(v)),
+                MemoryAt::Turn { step, mem } => turn_after(step, mem, v),
+            }
+        }
     }
 }

@@ -10,10 +10,12 @@ pub identified-by-spec : {M : Type 1} → statement M
 identified-by-spec =
     tie.close (tie.spec
     (λ c κs. search needs) (λ c κs. search needs)
-    (λ c. let a = c .before .before .before .args in no-target (a .how) (a .v) (sym (c .before .before .no-target .ensures)
-    ∙ c .before .if1 .taken) ∙ c .ended .ensures)
-    (λ c. search needs) (λ c κs. search needs) (λ c. search needs) (λ c. search needs)
-    (λ c. simp (c .before .enum-told .given .1) (simp (sym (c .before .before .before .before .no-target .ensures)
-    ∙ c .before .before .before .if1 .left) (c .ended2 .ensures)))
-    (λ c. simp (c .enum-told2 .given .1) (simp (sym (c .before .before .before .no-target .ensures) ∙ c .before .before .if1 .left)))
-    (λ c. simp (c .enum-told3 .given .1) (simp (sym (c .before .before .before .no-target .ensures) ∙ c .before .before .if1 .left))))
+    (λ c. let a = c .before .before .before .args in no-target (a .how) (a .v) (sym (c .before .before .no-target .ensures) ∙ c .before .if1 .taken)
+    ∙ c .ended .ensures)
+    (λ c. search needs) (λ c κs. search needs) (λ c. search needs) (λ c κs. search needs) (λ c. search needs) (λ c κs. search needs)
+    (λ c. let t = c .before .before .before in
+    simp (c .before .enum-told .given .1) (simp (sym (t .before .no-target .ensures) ∙ t .if1 .left) (c .ended2 .ensures)))
+    (λ c. let t = c .before .before .before in
+    simp (c .before .enum-told2 .given .1) (simp (sym (t .before .no-target .ensures) ∙ t .if1 .left) (c .changing .ensures)))
+    (λ c. let t = c .before .before .before in
+    simp (c .before .enum-told3 .given .1) (simp (sym (t .before .no-target .ensures) ∙ t .if1 .left) (c .changing2 .ensures))))

@@ -1,6 +1,7 @@
 -- In each arm the number is known, and the line computes at it.
 -- A number that is none of them is past the line's end, where Connect is.
-use Rattle.call_connect.specs.Laws.After.{swdLine, nth-rest}
+use Rattle.call.specs.Laws.Rows.{past-rows}
+use Rattle.call_connect.specs.Laws.After.{swdLine}
 use Rattle.call_connect.proofs.swd_call.Statement.{statement}
 use Rattle.call_connect.proofs.swd_call.Tie as tie
 
@@ -8,4 +9,4 @@ pub swd-call-spec : {M : Type 1} → statement M
 swd-call-spec = tie.close (tie.spec
     (λ c. simp (c .match .keys1)) (λ c. simp (c .match .keys2)) (λ c. simp (c .match .keys3)) (λ c. simp (c .match .keys4)) (λ c. simp
     (c .match .keys5))
-    (λ c. nth-rest swdLine _ (c .match .rest)))
+    (λ c. past-rows swdLine _ _ (c .match .rest)))

@@ -1,10 +1,9 @@
 -- What follows each operation of a connect. Serves the proofs only: the table of phases, and that it is the calls as written.
-use Prim.Native.Nat.{ℕ, zero, suc, _-_, _≤_, zero-le}
+use Prim.Native.Nat.{ℕ, zero, suc, _-_, _%_}
 use mathlib.Core.Bool.{true, cond}
 use mathlib.Core.List.{List, [], _∷_}
 use mathlib.Core.Path.{_≡_, refl, ap}
-use native.Mathlib.Omega.{arith}
-use lib.ListN.{length}
+use lib.ListN.{getD}
 use Rattle.wire.specs.Laws.Numbers.{less}
 use Rattle.wire.specs.declared.Call.{Call}
 use Rattle.wire.specs.declared.Call.the-variants as T
@@ -15,6 +14,7 @@ use Rattle.wire.specs.declared.Outcome.the-variants.{Value, Failed}
 use Rattle.wire_memap.specs.declared.Op.the-variants as O
 use Rattle.wire_memap.specs.Ports.{DPIDR, CTRL-STAT, SELECT}
 use Rattle.call.specs.Job.{Job, op, _>>=_, _>>_, return, fail, keeping, dpWrite}
+use Rattle.call.specs.declared.At.{At}
 use Rattle.call.specs.declared.Change.the-variants as C
 use Rattle.call_connect.specs.Connect.{
   parity,
@@ -54,9 +54,7 @@ line H.Multidrop targetsel = multidropLine targetsel
 
 -- the call that n more follow; before those of the list comes Connect
 abbrev pub nth : List Call → ℕ → Call
-nth [] n = T.Connect
-nth (c ∷ cs) zero = c
-nth (c ∷ cs) (suc n) = nth cs n
+nth cs n = getD cs n T.Connect
 
 -- what a DPIDR leads to
 abbrev pub identified : How → ℕ → Job
@@ -88,9 +86,27 @@ goesOn (A.Power dpidr) v = polled dpidr 1024
 goesOn (A.Poll dpidr left) v = afterPoll dpidr left v
 goesOn A.Pulse v = return 0
 
-abbrev pub connectAfter : ConnectAt → Outcome → Job
-connectAfter p (Value v) = goesOn p v
-connectAfter p (Failed e) = fail e
+abbrev pub phaseAfter : ConnectAt → Outcome → Job
+phaseAfter p (Value v) = goesOn p v
+phaseAfter p (Failed e) = fail e
+
+-- what the numbers of a call in flight say
+abbrev pub ways : List How
+ways = H.Probe ∷ H.Swd ∷ []
+
+abbrev pub howOf : ℕ → How
+howOf n = getD ways n H.Multidrop
+
+abbrev pub phases : At → List ConnectAt
+phases at =
+    A.Line (howOf (at .a)) (at .b) (at .c) ∷ A.Dpidr (howOf (at .a)) ∷ A.Abort (at .a) ∷ A.Select (at .a) ∷ A.Power (at .a)
+    ∷ A.Poll (at .a) (at .b) ∷ []
+
+abbrev pub connectAtOf : At → ConnectAt
+connectAtOf at = getD (phases at) (at .step % 32) A.Pulse
+
+abbrev pub connectAfter : At → Outcome → Job
+connectAfter at o = phaseAfter (connectAtOf at) o
 
 pub multidrop-is : (targetsel : ℕ) → connectMultidrop targetsel ≡ lineFrom H.Multidrop targetsel 15
 unfolding lineFrom
@@ -113,23 +129,6 @@ no-target H.Probe v h = simp h
 no-target H.Swd v h = simp h
 no-target H.Multidrop v h = simp h
 
--- none of the k numbers below k, as a match tells it
-abbrev pub noneBelow : ℕ → ℕ → Type 0
-noneBelow zero n = Unit {0}
-noneBelow (suc k) n = noneBelow k n × (n ≡ k → ⊥)
-
-at-least : (k n : ℕ) → noneBelow k n → k ≤ n
-at-least zero n h = zero-le
-at-least (suc k) n h = let p : k ≤ n = at-least k n (h .0) in let q : n ≡ k → ⊥ = h .1 in omega arith
-
-nth-past : (cs : List Call) (n : ℕ) → length cs ≤ n → T.Connect ≡ nth cs n
-nth-past [] n h = refl
-nth-past (c ∷ cs) zero h = absurd (omega arith)
-nth-past (c ∷ cs) (suc n) h = nth-past cs n (omega arith)
-
--- before all calls of the list comes Connect
-pub nth-rest : (cs : List Call) (n : ℕ) → noneBelow (length cs) n → T.Connect ≡ nth cs n
-nth-rest cs n h = nth-past cs n (at-least (length cs) n h)
 
 pub line-more : (how : How) (targetsel n : ℕ) → (n ≡ 0 → ⊥)
     → lineFrom how targetsel n ≡ op (O.Other (nth (line how targetsel) (n - 1))) (λ _. lineFrom how targetsel (n - 1)) fail

@@ -1,13 +1,16 @@
 -- What follows each operation of a breakpoint call. Serves the proofs only: the table of phases, and that it is the calls as written.
-use Prim.Native.Nat.{ℕ, zero, suc, _-_}
+use Prim.Native.Nat.{ℕ, zero, suc, _-_, _%_}
 use mathlib.Core.Bool.{Bool, true, false, cond}
+use mathlib.Core.List.{List, [], _∷_}
 use mathlib.Core.Path.{_≡_, refl, ap}
 use lib.Dec.{eqb}
+use lib.ListN.{getD}
 use Rattle.wire.specs.Laws.Numbers.{less}
 use Rattle.wire.specs.declared.Outcome.{Outcome}
 use Rattle.wire.specs.declared.Outcome.the-variants.{Value, Failed}
 use Rattle.wire_memap.specs.declared.Op.the-variants as O
 use Rattle.call.specs.Job.{Job, op, _>>=_, _>>_, fail, writeWord}
+use Rattle.call.specs.declared.At.{At}
 use Rattle.call_fpb.specs.Fpb as fpb
 use Rattle.call_fpb.specs.Breakpoint.{
   yes,
@@ -57,9 +60,27 @@ goesOn (A.Count clears value) v = find (found clears) value (numCode v) (numCode
 goesOn (A.Find clears value n left) v = afterFind clears value n left v
 goesOn A.Write v = yes
 
-abbrev pub fpbAfter : FpbAt → Outcome → Job
-fpbAfter p (Value v) = goesOn p v
-fpbAfter p (Failed e) = fail e
+abbrev pub phaseAfter : FpbAt → Outcome → Job
+phaseAfter p (Value v) = goesOn p v
+phaseAfter p (Failed e) = fail e
+
+-- what the numbers of a call in flight say
+abbrev pub phases : At → List FpbAt
+phases at =
+    A.SetCtrl (at .a)
+    ∷ A.Enable (at .a) (at .b % 256)
+    ∷ A.Seek (at .a) (at .b % 256) (at .c % 256) F.Nowhere
+    ∷ A.Seek (at .a) (at .b % 256) (at .c % 256) (F.At (at .d % 256))
+    ∷ A.Revision (eqb (at .d) 1) (at .a)
+    ∷ A.Count (eqb (at .d) 1) (at .a)
+    ∷ A.Find (eqb (at .d) 1) (at .a) (at .b % 256) (at .c % 256)
+    ∷ []
+
+abbrev pub fpbAtOf : At → FpbAt
+fpbAtOf at = getD (phases at) (at .step % 32) A.Write
+
+abbrev pub fpbAfter : At → Outcome → Job
+fpbAfter at o = phaseAfter (fpbAtOf at) o
 
 -- one comparator, at a count that the code takes down by one
 pub seek-more : (value n left : ℕ) (free : Free) → (left ≡ 0 → ⊥)

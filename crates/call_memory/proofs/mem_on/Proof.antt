@@ -11,7 +11,7 @@ pub mem-on-spec : {M : Type 1} → statement M
 unfolding memFrom
 mem-on-spec =
     tie.close (tie.spec
-    (λ c. (simp (c .if1 .taken), λ _. refl)) (λ c κs. search needs) (λ c. search needs) (λ c κs. search needs) (λ c κs. search needs)
+    (λ c κs. search needs) (λ c. (simp (c .before .if1 .taken), λ _. refl)) (λ c κs. search needs) (λ c. search needs) (λ c κs. search needs) (λ c κs. search needs)
     (λ c. let t = c .before .before .before in let a = t .before .before .args in (
       turn-ragged (a .read) (a .stop) (a .len) (a .left) (t .before .if1 .left) _ (t .minus .ensures) _ (c .before .if2 .taken)
           (c .before .before .smaller .ensures) ∙ c .move-bytes .ensures .0,

@@ -1,6 +1,5 @@
 -- The phase says what follows the operation, and a writing turn's change comes before it.
 -- Where `read` is true the other arm is not reached.
-use mathlib.Core.Path.{refl}
 use borrow.Author.Needs.{needs}
 use Rattle.call_memory.proofs.move_run.Statement.{statement}
 use Rattle.call_memory.proofs.move_run.Tie as tie
@@ -8,10 +7,14 @@ use Rattle.call_memory.proofs.move_run.Tie as tie
 pub move-run-spec : {M : Type 1} → statement M
 move-run-spec =
     tie.close (tie.spec
+    (λ c κs. search needs) (λ c κs. search needs) (λ c κs. search needs)
+    (λ c. let t = c .before .before in (
+      simp (c .before .if1 .taken) (simp (← t .before .minus .ensures) (simp (← t .minus2 .ensures) (c .moving .ensures .0))),
+      λ _. c .moving .ensures .1,
+    ))
     (λ c κs. search needs) (λ c κs. search needs)
-    (λ c. (simp (c .if1 .taken) (simp (c .before .before .minus .ensures) (simp (c .before .minus2 .ensures))), λ _. refl)) (λ c κs. search needs)
-    (λ c. (
-      simp (c .before .if1 .left) (simp (c .before .before .before .minus .ensures) (simp (c .before .before .minus2 .ensures) (simp
-          (c .minus3 .ensures)))),
-      λ e. cc (c .before .if1 .left),
+    (λ c. let t = c .before .before .before in (
+      simp (c .before .before .if1 .left)
+          (simp (← t .before .minus .ensures) (simp (← t .minus2 .ensures) (simp (← c .before .minus3 .ensures) (c .moving2 .ensures .0)))),
+      λ e. cc (c .before .before .if1 .left),
     )))
