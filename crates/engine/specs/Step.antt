@@ -1,6 +1,6 @@
 -- What a step has to answer: the next transport call or the ending in numbers, the bytes handed over, and what stands by then.
 use Prim.Native.Nat.{ℕ}
-use mathlib.Core.Bool.{Bool, cond}
+use mathlib.Core.Bool.{Bool, true, false, cond}
 use mathlib.Core.List.{List, []}
 use mathlib.Core.Path.{_≡_}
 use Rattle.wire.specs.Bytes.{handed, padded}
@@ -34,6 +34,12 @@ abbrev pub memoryIn : Wire → Memory
 memoryIn (done m o) = m
 memoryIn (ask m c f) = m
 memoryIn (tell m c w) = m
+
+-- whether the answer decides how the call goes on: that of an ABORT is ignored
+abbrev pub awaited : Wire → Bool
+awaited (done m o) = false
+awaited (ask m c f) = true
+awaited (tell m c w) = false
 
 -- The transport call in flight holds a count of at most 65 (02, e); of a call that has ended nothing is in flight.
 abbrev pub CountedIn : Status → List ℕ → Type 0

@@ -1,11 +1,16 @@
 // The engine's calls, step by step: a step takes the last answer and what the caller lends, and answers with the next
 // transport call or the call's ending.
+ghost use mathlib.Core.Bool.{false};
+ghost use mathlib.Core.List.{List};
 ghost use mathlib.Core.Path.{_≡_};
+ghost use Prim.Native.Nat.{ℕ};
+ghost use Rattle.wire.specs.Laws.Flight.{transferOf};
+ghost use Rattle.wire_memap.specs.Laws.Doing.{rememberedOf};
 ghost use Rattle.call.specs.Change.{fresh};
 ghost use Rattle.engine_calls.specs.Calls.{lent, callTree};
-ghost use Rattle.engine.specs.Step.{Lent, Stepped};
+ghost use Rattle.engine.specs.Step.{Lent, Stepped, awaited};
 ghost use Rattle.engine.specs.Laws.Answer.{Answers};
-ghost use Rattle.engine.specs.Laws.State.{atOf};
+ghost use Rattle.engine.specs.Laws.State.{atOf, ownOf, stateTree};
 ghost use Rattle.engine.specs.Laws.Step.{storedAt, EndsIn, BeginsNext, Changes, AsksIn, StepsIn, StartedIn, SteppedIn};
 use call::Asks;
 use call::At;
@@ -13,6 +18,7 @@ use call::Change;
 use call::Next;
 use engine_calls::EngineCall;
 use wire::Answer;
+use wire::Call;
 use wire::Outcome;
 use wire::Remembered;
 use wire_memap::Went;
@@ -263,4 +269,60 @@ pub fn step(
     let mut c = s.call;
     step_in(&mut t, &mut m, &mut c, a, row, words, buf);
     answer(t, m, c)
+}
+
+// What is remembered.
+pub fn remembered(s: State) -> Remembered
+    ensures { λ r. ⌜ r ≡ rememberedOf (s .op) ⌝ }
+{
+    let m = s.op;
+    wire_memap::remembered(&m)
+}
+
+// The transport call in flight.
+pub fn due(s: State) -> Call
+    ensures { λ r. ⌜ r ≡ transferOf (s .transfer) .call ⌝ }
+{
+    let t = s.transfer;
+    wire::due(&t)
+}
+
+// Whether a call waits for the answer: it does not for that of an ABORT, which is ignored, nor once it has ended.
+pub fn awaits(s: State) -> bool
+    ensures { λ r. ⌜ ((ws b : List ℕ) → r ≡ awaited (stateTree s ws b)) ⌝ }
+{
+    let t = s.transfer;
+    let c = s.call;
+    if c[STATUS] == 0 {
+        return !wire::is_aborting(&t);
+    }
+    false
+}
+
+// The state of an engine that has made no call.
+pub fn idle(r: Remembered) -> State
+    ensures { λ s. ⌜ rememberedOf (s .op) ≡ r ⌝ }
+{
+    let mut m = [0u32; 12];
+    wire_memap::remember(&mut m, r);
+    State {
+        transfer: [0u32; 7],
+        op: m,
+        call: [0u32; 10],
+    }
+}
+
+// The same call, over the row.
+pub fn over_row(s: State) -> State
+    ensures { λ r. ⌜ ((ws b : List ℕ) → stateTree r ws b ≡ stateTree s ws b) × (ownOf (r .call) ≡ false) ⌝ }
+{
+    let t = s.transfer;
+    let m = s.op;
+    let mut c = s.call;
+    c[OWN] = 0;
+    State {
+        transfer: t,
+        op: m,
+        call: c,
+    }
 }

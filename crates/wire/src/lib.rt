@@ -11,7 +11,7 @@ ghost use Rattle.wire.specs.Bytes.{patternNo, patternAt, patternBytes, p
 ghost use Rattle.wire.specs.Wire.{Wire, Memory, follow};
 ghost use Rattle.wire.specs.Transfer.{raw, rawOutcome};
 ghost use Rattle.wire.specs.Count.{Counted};
-ghost use Rattle.wire.specs.Laws.Flight.{errorOf, outcomeOf, Sized, Trying, transferOf, transferTree, begun, begunRaw, aborts, waits, answered, Goes};
+ghost use Rattle.wire.specs.Laws.Flight.{errorOf, outcomeOf, Sized, Trying, transferOf, transferTree, begun, begunRaw, aborts, waits, answered, ignoring, Goes};
 
 // What the engine remembers of the target. SELECT 0xFFFFFFFF means unknown.
 pub struct Remembered {
@@ -449,4 +449,11 @@ pub fn due(t: &[u32; 7]) -> Call
         },
         _ => Call::OutputEnable,
     }
+}
+
+// Whether the ABORT is in flight, whose answer is ignored.
+pub fn is_aborting(t: &[u32; 7]) -> bool
+    ensures { λ r. ⌜ r ≡ ignoring (transferOf (now (t .entry)) .mode) ⌝ }
+{
+    t[MODE] == ABORTING
 }

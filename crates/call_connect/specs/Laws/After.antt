@@ -129,7 +129,6 @@ no-target H.Probe v h = simp h
 no-target H.Swd v h = simp h
 no-target H.Multidrop v h = simp h
 
-
 pub line-more : (how : How) (targetsel n : ℕ) → (n ≡ 0 → ⊥)
     → lineFrom how targetsel n ≡ op (O.Other (nth (line how targetsel) (n - 1))) (λ _. lineFrom how targetsel (n - 1)) fail
 unfolding lineFrom

@@ -1,10 +1,10 @@
 -- What comes next in the tree of a state is what its words tell. Serves the proofs only.
 use Prim.Native.Nat.{ℕ}
-use mathlib.Core.Bool.{Bool, true, false, cond}
+use mathlib.Core.Bool.{Bool, true, false, not, cond}
 use mathlib.Core.List.{List, []}
 use mathlib.Core.Path.{_≡_, refl, sym, ap, subst, _∙_}
 use lib.Dec.{eqb}
-use lib.ListN.{getD, replicate}
+use lib.ListN.{getD, set, replicate}
 use Rattle.wire.specs.Bytes.{handed, padded}
 use Rattle.wire.specs.Wire.{Wire, Memory, memoryOf, done, follow}
 use Rattle.wire.specs.Laws.Flight.{outcomeOf, Mode, Transfer, transferOf, flight}
@@ -21,8 +21,8 @@ use Rattle.wire_memap.specs.Laws.Flight.{Fits}
 use Rattle.engine_calls.specs.Calls.{lent, callTree}
 use Rattle.engine_calls.specs.declared.EngineCall.{EngineCall}
 use Rattle.wire.specs.declared.Remembered.{Remembered}
-use Rattle.engine.specs.Step.{nextOf, bytesOf, memoryIn, CountedIn, Steps, Lent, Stepped}
-use Rattle.engine.specs.Laws.State.{Status, Running, Ended, statusAs, statusOf, ownOf, CallSized, flightTree, statusTree, wordsTree, stateTree}
+use Rattle.engine.specs.Step.{nextOf, bytesOf, memoryIn, awaited, CountedIn, Steps, Lent, Stepped}
+use Rattle.engine.specs.Laws.State.{Status, Running, Ended, statusAs, statusOf, ownOf, CallSized, flightTree, statusTree, wordsTree, stateTree, by-words}
 use Rattle.engine.specs.Laws.Step.{StandsFor, LentIn, StartedIn, SteppedIn}
 use Rattle.engine.specs.declared.NextStep.{NextStep}
 use Rattle.engine.specs.declared.NextStep.the-variants as N
@@ -104,3 +104,25 @@ pub started : {r : Remembered} {x : EngineCall} {m₀ row₀ words₀ b₀ t m c
     → Lent (lent x) (callTree x r row₀ words₀ b₀) y row₀ words₀ row words b
 started {r} {x} {m₀} {row₀} {words₀} {b₀} {row = row} {words} {b} y h g a =
     subst (λ (r : Remembered). Lent (lent x) (callTree x r row₀ words₀ b₀) y row₀ words₀ row words b) (h .is) (answered y (g .lent (refl, h .sized) refl) a)
+
+-- whether an answer is waited for
+flight-awaited : (d : Mode) (m : Memory) (t : Transfer) (k : Outcome → Wire) → not (D.ignoring d) ≡ awaited (flight d m t k)
+flight-awaited D.trying m t k = refl
+flight-awaited D.aborting m t k = refl
+flight-awaited D.raw m t k = refl
+
+pub awaits-answer : (s : State) {x : Bool} → eqb (getD (s .call) 6 0) 0 ≡ true → x ≡ D.ignoring (transferOf (s .transfer) .mode)
+    → (ws b : List ℕ) → not x ≡ awaited (stateTree s ws b)
+awaits-answer s z h ws b =
+    ap not h ∙ flight-awaited (transferOf (s .transfer) .mode) (stands (s .op) ws b) (transferOf (s .transfer)) _
+    ∙ ap (λ (y : Bool). awaited (statusTree (statusAs y (outcomeOf (getD (s .call) 7 0) (getD (s .call) 8 0)))
+    (flightTree (s .transfer) (s .op) (s .call) ws b) (stands (s .op) ws b))) (sym z)
+
+pub awaits-none : (s : State) → eqb (getD (s .call) 6 0) 0 ≡ false → (ws b : List ℕ) → false ≡ awaited (stateTree s ws b)
+awaits-none s z ws b =
+    ap (λ (y : Bool). awaited (statusTree (statusAs y (outcomeOf (getD (s .call) 7 0) (getD (s .call) 8 0)))
+    (flightTree (s .transfer) (s .op) (s .call) ws b) (stands (s .op) ws b))) (sym z)
+
+pub over-row-is : (t m c : List ℕ) → CallSized c → ((ws b : List ℕ) → wordsTree t m (set c 9 0) ws b ≡ wordsTree t m c ws b) × (ownOf (set c 9 0) ≡ false)
+over-row-is t m = by-words (λ c. ((ws b : List ℕ) → wordsTree t m (set c 9 0) ws b ≡ wordsTree t m c ws b) × (ownOf (set c 9 0) ≡ false))
+    (λ _ _ _ _ _ _ _ _ _ _. ((λ ws b. refl), refl))

@@ -246,3 +246,17 @@ pins-back x y e f = simp (e, f) refl
 
 pub bits-back : (x : ℕ) {b word : ℕ} → x % 256 ≡ b → C.WriteBits b word ≡ C.WriteBits (x % 256) word
 bits-back x e = simp e refl
+
+-- whether the answer is ignored
+abbrev pub ignoring : Mode → Bool
+ignoring trying = false
+ignoring aborting = true
+ignoring raw = false
+
+pub ignoring-is : (n : ℕ) → eqb n 1 ≡ ignoring (modeOf n)
+ignoring-is zero = refl
+ignoring-is (suc zero) = refl
+ignoring-is (suc (suc n)) = ne-eqb (suc (suc n)) 1 (λ q. far n q)
+  where
+    far : (n : ℕ) → suc (suc n) ≡ 1 → ⊥
+    far n q = omega (arith, q)
