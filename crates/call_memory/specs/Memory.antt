@@ -1,7 +1,7 @@
 -- Copyright 2026 Kenta Ida. SPDX-License-Identifier: Apache-2.0. Ported from arm-debug/src/lib.rs of ciniml/rust-dap.
 -- Raw registers of an access port, words and memory (000: set_apsel to ap_reg_write, read_word to write_mem).
 use Prim.Native.Nat.{ℕ, zero, suc, _+_, _-_, _*_, _/_, _%_, min}
-use mathlib.Core.Bool.{Bool, true, false, cond}
+use mathlib.Core.Bool.{Bool, true, false, _&&_, cond}
 use lib.Dec.{eqb, leb}
 use Rattle.wire.specs.declared.ArmError.the-variants as E
 use Rattle.wire_memap.specs.Words.{tarRun}
@@ -42,36 +42,38 @@ movePart false a at count = do
   keeping (C.Patch at (a % 4) count word)
   just (O.WriteWords (a - a % 4) 1 0)
 
--- one turn with `left` bytes to go, and then `next` with the bytes that it moved
-abbrev pub moveRun : Bool → ℕ → ℕ → ℕ → (ℕ → Job) → Job
-moveRun read a at n next = do
-  moveWords read a at n
-  next (4 * n)
+-- whether a turn with `left` bytes to go moves whole words, and else how much of the word that holds the address a
+abbrev pub whole : ℕ → ℕ → Bool
+whole a left = eqb (a % 4) 0 && leb 4 left
 
-abbrev pub moveBytes : Bool → ℕ → ℕ → ℕ → (ℕ → Job) → Job
-moveBytes read a at count next = do
-  movePart read a at count
-  next count
+abbrev pub partBytes : ℕ → ℕ → ℕ
+partBytes a left = min (4 - a % 4) left
 
-abbrev pub turn : Bool → ℕ → ℕ → ℕ → (ℕ → Job) → Job
-turn read a at left next =
-    cond (eqb (a % 4) 0)
-    (cond (leb 4 left) (moveRun read a at (runWords a (left / 4)) next) (moveBytes read a at (min (4 - a % 4) left) next))
-    (moveBytes read a at (min (4 - a % 4) left) next)
+abbrev pub turn : Bool → ℕ → ℕ → ℕ → Job
+turn read a at left = cond (whole a left) (moveWords read a at (runWords a (left / 4))) (movePart read a at (partBytes a left))
 
--- `left` bytes to go, the last of them just below the address `stop` and at the buffer's end, `len`; the next `passed` of
--- them are moved already, so that the count goes down byte by byte
-unfoldable pub memFrom : Bool → ℕ → ℕ → ℕ → ℕ → Job
-memFrom read stop len zero passed = return 0
-memFrom read stop len (suc left) (suc passed) = memFrom read stop len left passed
-memFrom read stop len (suc left) zero = turn read (stop - suc left) (len - suc left) (suc left) (λ moved. memFrom read stop len left (moved - 1))
+-- the bytes that it moves
+abbrev pub moved : ℕ → ℕ → ℕ
+moved a left = cond (whole a left) (4 * runWords a (left / 4)) (partBytes a left)
+
+-- The Rust's `while`: `left` bytes to go, the last of them just below the address `stop` and at the buffer's end, `len`. The first
+-- number bounds the turns.
+unfoldable pub turns : ℕ → Bool → ℕ → ℕ → ℕ → Job
+turns zero read stop len left = return 0
+turns (suc fuel) read stop len left = cond (eqb left 0) (return 0) (do
+  turn read (stop - left) (len - left) left
+  turns fuel read stop len (left - moved (stop - left) left))
+
+-- every turn moves a byte, so `left` turns are enough
+abbrev pub memFrom : Bool → ℕ → ℕ → ℕ → Job
+memFrom read stop len left = turns left read stop len left
 
 -- 01's Range: the range has to end below 2^32
 abbrev pub inRange : Bool → Job → Job
 inRange past j = cond past (fail E.Range) j
 
 abbrev pub mem : Bool → ℕ → ℕ → Job
-mem read addr len = inRange (leb 0x100000000 (addr + len)) (memFrom read (addr + len) len len 0)
+mem read addr len = inRange (leb 0x100000000 (addr + len)) (memFrom read (addr + len) len len)
 
 abbrev pub readMem : ℕ → ℕ → Job
 readMem addr len = mem true addr len

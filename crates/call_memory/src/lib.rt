@@ -10,7 +10,8 @@ ghost use lib.Dec.{leb};
 ghost use Rattle.call.specs.Job.{ends, just};
 ghost use Rattle.call.specs.Laws.Asks.{asks, keepSome, opThen};
 ghost use Rattle.call.specs.declared.Change.the-variants.{Nothing};
-ghost use Rattle.call_memory.specs.Memory.{memoryJob, readWords, writeWords, inRange, mem, memFrom, moveRun, moveBytes, runWords};
+ghost use Rattle.call_memory.specs.Memory.{memoryJob, readWords, writeWords, inRange, mem, memFrom, runWords};
+ghost use Rattle.call_memory.specs.Laws.Turns.{moveRun, moveBytes};
 ghost use Rattle.call_memory.specs.Laws.After.{memoryAfter, phaseAfter, memoryAtOf, turnOf, goesOn, addrOf, placeOf, rest};
 ghost use Rattle.call_memory.specs.declared.Mem.{Mem};
 ghost use Rattle.call_memory.specs.declared.MemoryAt.the-variants.{Turn};
@@ -226,7 +227,7 @@ fn move_bytes(read: bool, m: Mem) -> Asks
 
 // The turn with `left` bytes to go. One that reads changes nothing before its operation.
 fn mem_on(read: bool, stop: u32, len: u32, left: u32) -> Asks
-    ensures { λ r. ⌜ memFrom read stop len left 0 ≡ asks (r .change) (r .next) (memoryAfter (r .at)) ⌝ }
+    ensures { λ r. ⌜ memFrom read stop len left ≡ asks (r .change) (r .next) (memoryAfter (r .at)) ⌝ }
     ensures { λ r. ⌜ (read ≡ true → r .change ≡ Nothing) ⌝ }
 {
     if left == 0 {
@@ -335,7 +336,7 @@ pub fn start(c: MemoryCall, words: usize, bytes: usize) -> Asks
 
 // A change, and then reading goes on with `left` bytes to go.
 fn stored(change: Change, stop: u32, len: u32, left: u32) -> Asks
-    ensures { λ r. ⌜ keepSome change (memFrom true stop len left 0) ≡ asks (r .change) (r .next) (memoryAfter (r .at)) ⌝ }
+    ensures { λ r. ⌜ keepSome change (memFrom true stop len left) ≡ asks (r .change) (r .next) (memoryAfter (r .at)) ⌝ }
 {
     let turn = mem_on(true, stop, len, left);
     let at = turn.at;

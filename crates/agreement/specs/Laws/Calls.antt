@@ -10,7 +10,7 @@ use Rattle.call.specs.Job.{Job, ends, return, fail}
 use Rattle.call.specs.declared.Change.the-variants as C
 use Rattle.call_connect.specs.Connect.{connectJob, accepted, setUp, noTarget, bothAcks, pollAcks}
 use Rattle.call_connect.specs.declared.ConnectCall.the-variants as N
-use Rattle.call_memory.specs.Memory.{memoryJob, memFrom, turn, moveRun, moveBytes, runWords}
+use Rattle.call_memory.specs.Memory.{memoryJob, turns, turn, moved, whole, moveWords, movePart, runWords, partBytes}
 use Rattle.call_core.specs.Cortex.{R0, S-REGRDY, S-HALT, stands}
 use Rattle.call_core.specs.Core.{POLLS, waitStatus, readCoreReg, storeCoreReg}
 use Rattle.call_core.specs.Function.{coreJob, ENTRIES, NOT-FOUND, readEntry, lookFrom, clobbered, saveRegs, writeRegs, writeRowReg}
@@ -51,28 +51,24 @@ connect-sound = step λ _. step λ _. step λ _. step λ _. step λ _. step λ _
     sound-bind (accepted dpidr) (setUp C.New) (sound-cond (noTarget dpidr) (fail E.NoTarget) (return dpidr) tt tt) set-up-sound
 
 -- Calls 13 and 14
-run-sound : (read : Bool) (a at n : ℕ) (next : ℕ → Job) → ((v : ℕ) → Sound (next v) any) → Sound (moveRun read a at n next) any
+words-sound : (read : Bool) (a at n : ℕ) → Sound (moveWords read a at n) any
 unfolding Sound
-run-sound true a at n next h = step λ _. (tt, h _)
-run-sound false a at n next h = (tt, step λ _. h _)
+words-sound true a at n = step λ _. (tt, tt)
+words-sound false a at n = (tt, step λ _. tt)
 
-bytes-sound : (read : Bool) (a at count : ℕ) (next : ℕ → Job) → ((v : ℕ) → Sound (next v) any) → Sound (moveBytes read a at count next) any
+part-sound : (read : Bool) (a at count : ℕ) → Sound (movePart read a at count) any
 unfolding Sound
-bytes-sound true a at count next h = step λ _. (tt, h _)
-bytes-sound false a at count next h = step λ _. (tt, step λ _. h _)
+part-sound true a at count = step λ _. (tt, tt)
+part-sound false a at count = step λ _. (tt, step λ _. tt)
 
-turn-sound : (read : Bool) (a at left : ℕ) (next : ℕ → Job) → ((v : ℕ) → Sound (next v) any) → Sound (turn read a at left next) any
-turn-sound read a at left next h =
-    let part = bytes-sound read a at (min (4 - a % 4) left) next h in
-    sound-cond (eqb (a % 4) 0) _ _ (sound-cond (leb 4 left) _ _ (run-sound read a at (runWords a (left / 4)) next h) part) part
-
-mem-sound : (read : Bool) (stop len left passed : ℕ) → Sound (memFrom read stop len left passed) any
-unfolding Sound memFrom
-mem-sound read stop len zero passed = tt
-mem-sound read stop len (suc left) (suc passed) = mem-sound read stop len left passed
-mem-sound read stop len (suc left) zero =
-    turn-sound read (stop - suc left) (len - suc left) (suc left) (λ moved. memFrom read stop len left (moved - 1))
-    (λ moved. mem-sound read stop len left (moved - 1))
+mem-sound : (fuel : ℕ) (read : Bool) (stop len left : ℕ) → Sound (turns fuel read stop len left) any
+unfolding Sound turns
+mem-sound zero read stop len left = tt
+mem-sound (suc fuel) read stop len left =
+    let a = stop - left in
+    sound-cond (eqb left 0) (return 0) _ tt (sound-bind (turn read a (len - left) left) (λ _. turns fuel read stop len (left - moved a left))
+    (sound-cond (whole a left) _ _ (words-sound read a (len - left) (runWords a (left / 4))) (part-sound read a (len - left) (partBytes a left)))
+    (λ _. mem-sound fuel read stop len (left - moved a left)))
 
 -- Calls 15 to 25
 wait-sound : (bit n : ℕ) → Sound (waitStatus bit n) any
@@ -193,7 +189,7 @@ unfolding Sound memoryJob
 call-sound S.ConnectSwd bytes = connect-sound
 call-sound (S.ReadWord addr) bytes = step λ _. tt
 call-sound (S.WriteWord addr word) bytes = step λ _. tt
-call-sound (S.ReadMem addr) bytes = sound-cond (leb 0x100000000 (addr + bytes)) (fail E.Range) _ tt (mem-sound true (addr + bytes) bytes bytes 0)
-call-sound (S.WriteMem addr) bytes = sound-cond (leb 0x100000000 (addr + bytes)) (fail E.Range) _ tt (mem-sound false (addr + bytes) bytes bytes 0)
+call-sound (S.ReadMem addr) bytes = sound-cond (leb 0x100000000 (addr + bytes)) (fail E.Range) _ tt (mem-sound bytes true (addr + bytes) bytes bytes)
+call-sound (S.WriteMem addr) bytes = sound-cond (leb 0x100000000 (addr + bytes)) (fail E.Range) _ tt (mem-sound bytes false (addr + bytes) bytes bytes)
 call-sound (S.Core c) bytes = core-sound c
 call-sound (S.Fpb c) bytes = fpb-sound c

@@ -6,8 +6,8 @@ use native.Mathlib.Nat.{sub-zero}
 use native.Mathlib.Decide.{decLt, ℕ-discrete}
 use native.Mathlib.Omega.{arith}
 use Rattle.call.specs.Job.{Job, return}
-use Rattle.call_memory.specs.Memory.{memFrom, moveRun, moveBytes, runWords}
-use Rattle.call_memory.specs.Laws.Turns.{turn-run, turn-ragged, turn-short}
+use Rattle.call_memory.specs.Memory.{turns, memFrom, runWords, partBytes}
+use Rattle.call_memory.specs.Laws.Turns.{moveRun, moveBytes, turn-run, turn-ragged, turn-short}
 use Rattle.agreement.specs.Laws.Drw.{InKiB}
 
 -- Leads j k: from where k bytes are moved, the job j does as is claimed
@@ -20,7 +20,7 @@ pub record EachTurn (read : Bool) (addr len : ℕ) (Leads : Job → ℕ → Type
 
 module _ {read : Bool} {addr len : ℕ} {Leads : Job → ℕ → Type 0} (each : EachTurn read addr len Leads) where
   abbrev From : ℕ → Type 0
-  From left = Leads (memFrom read (addr + len) len left 0) (len - left)
+  From left = Leads (memFrom read (addr + len) len left) (len - left)
 
   -- one turn with `left` bytes to go
   module _ (left : ℕ) (some : left ≡ 0 → ⊥) (l : left ≤ len) (ih : (less : ℕ) → less < left → From less) where
@@ -31,7 +31,7 @@ module _ {read : Bool} {addr len : ℕ} {Leads : Job → ℕ → Type 0} (each :
     at = len - left
 
     abbrev next : ℕ → Job
-    next moved = memFrom read (addr + len) len (left - moved) 0
+    next moved = memFrom read (addr + len) len (left - moved)
 
     -- what follows, after `moved` bytes
     follows : (moved : ℕ) → 0 < moved → moved ≤ left → Leads (next moved) (at + moved)
@@ -50,7 +50,7 @@ module _ {read : Bool} {addr len : ℕ} {Leads : Job → ℕ → Type 0} (each :
 
     -- a part of a word
     abbrev count : ℕ
-    count = min (4 - a % 4) left
+    count = partBytes a left
 
     part : Leads (moveBytes read a at count next) at
     part = each .bytes a at count next (omega arith) (omega arith) (omega arith) (omega arith) (follows count (omega arith) (omega arith))
@@ -63,16 +63,16 @@ module _ {read : Bool} {addr len : ℕ} {Leads : Job → ℕ → Type 0} (each :
         go (yes z) (yes f) = subst (λ (j : Job). Leads j at) (sym (turn-short read (addr + len) len left some a refl count z f refl)) part
         go (no z) d = subst (λ (j : Job). Leads j at) (sym (turn-ragged read (addr + len) len left some a refl count z refl)) part
 
-  turns : (fuel left : ℕ) → left < fuel → left ≤ len → From left
-  unfolding memFrom
-  turns zero left h l = absurd (omega arith)
-  turns (suc fuel) left h l = go (ℕ-discrete left 0) (λ less x. turns fuel less (omega arith) (omega arith))
+  from : (fuel left : ℕ) → left < fuel → left ≤ len → From left
+  unfolding turns
+  from zero left h l = absurd (omega arith)
+  from (suc fuel) left h l = go (ℕ-discrete left 0) (λ less x. from fuel less (omega arith) (omega arith))
     where
       go : Dec (left ≡ 0) → ((less : ℕ) → less < left → From less) → From left
       go (yes e) ih = rw (e, sub-zero) (each .none)
       go (no n) ih = one-turn left n l ih
 
-  pub all-turns : Leads (memFrom read (addr + len) len len 0) 0
+  pub all-turns : Leads (memFrom read (addr + len) len len) 0
   all-turns =
       let e : len - len ≡ 0 = omega arith in
-      subst (Leads (memFrom read (addr + len) len len 0)) e (turns (suc len) len (omega arith) (omega arith))
+      subst (Leads (memFrom read (addr + len) len len)) e (from (suc len) len (omega arith) (omega arith))

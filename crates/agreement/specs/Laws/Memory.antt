@@ -180,11 +180,11 @@ module _ (x : Moment) (k : Kept x) (n : ℕ) (buf : List ℕ) (bytes : Bytes buf
 
   -- a range that ends below 2^32 is not refused again
   in-range : (read : Bool) (addr : ℕ) → not (leb 0x100000000 (addr + length buf)) ≡ true
-      → memFrom read (addr + length buf) (length buf) (length buf) 0 ≡ mem read addr (length buf)
+      → memFrom read (addr + length buf) (length buf) (length buf) ≡ mem read addr (length buf)
   in-range read addr h = rw (not-true (leb 0x100000000 (addr + length buf)) h) refl
 
   ranged-safe : (Q : Post) (S : Stand) (read : Bool) (addr : ℕ) → not (leb 0x100000000 (addr + length buf)) ≡ true
-      → Safe Q S (exec (memFrom read (addr + length buf) (length buf) (length buf) 0) start) (x .target) (x .mem) false
+      → Safe Q S (exec (memFrom read (addr + length buf) (length buf) (length buf)) start) (x .target) (x .mem) false
       → Safe Q S (exec (mem read addr (length buf)) start) (x .target) (x .mem) false
   ranged-safe Q S read addr h s = subst (λ (j : Job). Safe Q S (exec j start) (x .target) (x .mem) false) (in-range read addr h) s
 

@@ -11,7 +11,8 @@ use Rattle.wire_memap.specs.Ops.{perform}
 use Rattle.call.specs.Change.{changed}
 use Rattle.call.specs.declared.Change.the-variants as C
 use Rattle.call.specs.Job.{Job, exec, return}
-use Rattle.call_memory.specs.Memory.{memFrom, moveRun, moveBytes}
+use Rattle.call_memory.specs.Memory.{memFrom}
+use Rattle.call_memory.specs.Laws.Turns.{moveRun, moveBytes}
 use Rattle.target.specs.declared.Target.{Target}
 use Rattle.agreement.specs.Demand3.{Bytes}
 use Rattle.agreement.specs.Laws.Safe.{Stand, Post, Safe}
@@ -96,7 +97,7 @@ module _ (base : ℕ) (old : List ℕ) (addr len : ℕ) (bytes : Bytes old) wher
       }
 
   -- all turns
-  pub read-mem : Leads (memFrom true (addr + len) len len 0) 0
+  pub read-mem : Leads (memFrom true (addr + len) len len) 0
   read-mem = all-turns each
     where
       each : EachTurn true addr len Leads

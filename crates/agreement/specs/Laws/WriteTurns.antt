@@ -14,7 +14,8 @@ use Rattle.call.specs.Bytes.{loadWords, patchWord}
 use Rattle.call.specs.Job.{Job, exec, return, keep, just, _>>_}
 use Rattle.call.specs.declared.Change.the-variants as C
 use Rattle.wire_memap.specs.declared.Op.the-variants as O
-use Rattle.call_memory.specs.Memory.{memFrom, moveRun, moveBytes}
+use Rattle.call_memory.specs.Memory.{memFrom}
+use Rattle.call_memory.specs.Laws.Turns.{moveRun, moveBytes}
 use Rattle.target.specs.declared.Target.{Target}
 use Rattle.agreement.specs.Demand3.{Bytes}
 use Rattle.agreement.specs.Laws.Safe.{Stand, Post, Safe}
@@ -200,7 +201,7 @@ module _ (base : ℕ) (old : List ℕ) (addr : ℕ) (new : List ℕ) (bo : Bytes
       halts = stops (λ _ _ _ _ k. (k .rest .0, (at, rw (k .rest .1) (x .progress))))
 
   -- all turns
-  pub write-mem : Leads (memFrom false (addr + length new) (length new) (length new) 0) 0
+  pub write-mem : Leads (memFrom false (addr + length new) (length new) (length new)) 0
   write-mem = all-turns each
     where
       each : EachTurn false addr (length new) Leads

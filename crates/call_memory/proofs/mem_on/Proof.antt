@@ -1,14 +1,14 @@
--- With nothing left `memFrom` ends; otherwise its turn is the one that the two tests say (Turns), and `move_bytes` or `move_run` ensures it.
+-- With nothing left there is no turn; otherwise its turn is the one that the two tests say (Turns), and `move_bytes` or `move_run` ensures it.
 -- Each of the two also ensures that a reading turn changes nothing.
 use mathlib.Core.Path.{refl, _∙_}
 use borrow.Author.Needs.{needs}
-use Rattle.call_memory.specs.Memory.{memFrom}
+use Rattle.call_memory.specs.Memory.{turns}
 use Rattle.call_memory.specs.Laws.Turns.{turn-run, turn-short, turn-ragged}
 use Rattle.call_memory.proofs.mem_on.Statement.{statement}
 use Rattle.call_memory.proofs.mem_on.Tie as tie
 
 pub mem-on-spec : {M : Type 1} → statement M
-unfolding memFrom
+unfolding turns
 mem-on-spec =
     tie.close (tie.spec
     (λ c κs. search needs) (λ c. (simp (c .before .if1 .taken), λ _. refl)) (λ c κs. search needs) (λ c. search needs) (λ c κs. search needs) (λ c κs. search needs)

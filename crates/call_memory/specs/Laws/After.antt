@@ -24,7 +24,7 @@ placeOf m = m .len - m .left
 
 -- the turns after one that moves `moved` bytes
 abbrev pub rest : Bool → Mem → ℕ → Job
-rest read m moved = memFrom read (m .stop) (m .len) (m .left - moved) 0
+rest read m moved = memFrom read (m .stop) (m .len) (m .left - moved)
 
 abbrev pub goesOn : MemoryAt → ℕ → Job
 goesOn A.Whole v = return v

@@ -3,59 +3,73 @@
 use Prim.Native.Nat.{ℕ, zero, suc, _-_, _*_, _/_, _%_, min, _≤_, _<_}
 use mathlib.Core.Bool.{Bool}
 use mathlib.Core.Path.{_≡_, refl, ap, _∙_}
+use native.Mathlib.Decide.{decLt, ℕ-discrete}
 use native.Mathlib.Omega.{arith}
 use borrow.Author.Tests.{eq-eqb, ne-eqb, le-leb, lt-leb}
-use Rattle.wire.specs.Laws.Numbers.{less}
 use Rattle.call.specs.Job.{Job, _>>_}
-use Rattle.call_memory.specs.Memory.{memFrom, turn, moveWords, movePart, moveRun, moveBytes, runWords}
+use Rattle.call_memory.specs.Memory.{turns, memFrom, turn, moved, moveWords, movePart, runWords, partBytes}
 
--- the bytes that are passed are to go no more
-mem-passed : (read : Bool) (stop len left passed : ℕ) → passed ≤ left → memFrom read stop len left passed ≡ memFrom read stop len (left - passed) 0
-unfolding memFrom
-mem-passed read stop len left zero h = ap (λ (n : ℕ). memFrom read stop len n 0) (same left)
-  where
-    same : (n : ℕ) → n ≡ n - 0
-    same n = omega arith
-mem-passed read stop len zero (suc passed) h = absurd (omega arith)
-mem-passed read stop len (suc left) (suc passed) h =
-    mem-passed read stop len left passed (omega arith) ∙ ap (λ (n : ℕ). memFrom read stop len n 0) (less left passed)
-  where
-    less : (n p : ℕ) → n - p ≡ suc n - suc p
-    less n p = omega arith
+-- n words, or `count` bytes of one, and then `next` with the bytes that were moved
+abbrev pub moveRun : Bool → ℕ → ℕ → ℕ → (ℕ → Job) → Job
+moveRun read a at n next = moveWords read a at n >> next (4 * n)
 
-module _ (read : Bool) (stop len left : ℕ) (some : left ≡ 0 → ⊥) where
-  mem-turn : memFrom read stop len left 0 ≡ turn read (stop - left) (len - left) left (λ moved. memFrom read stop len (left - 1) (moved - 1))
-  unfolding memFrom
-  mem-turn = one left some
+abbrev pub moveBytes : Bool → ℕ → ℕ → ℕ → (ℕ → Job) → Job
+moveBytes read a at count next = movePart read a at count >> next count
+
+moves : (a left : ℕ) → (left ≡ 0 → ⊥) → 1 ≤ moved a left
+moves a left some = go (ℕ-discrete (a % 4) 0) (decLt left 4)
+  where
+    go : Dec (a % 4 ≡ 0) → Dec (left < 4) → 1 ≤ moved a left
+    go (yes z) (no f) = simp (eq-eqb _ _ z) (simp (le-leb 4 left (omega arith)) (omega arith))
+    go (yes z) (yes f) = simp (eq-eqb _ _ z) (simp (lt-leb 4 left f) (omega arith))
+    go (no z) d = simp (ne-eqb _ _ z) (omega arith)
+
+fewer : (n m fuel : ℕ) → n ≤ suc fuel → 1 ≤ m → n - m ≤ fuel
+fewer n m fuel h k = omega arith
+
+module _ (read : Bool) (stop len : ℕ) where
+  -- as many turns as there are bytes are enough
+  enough : (f g left : ℕ) → left ≤ f → left ≤ g → turns f read stop len left ≡ turns g read stop len left
+  unfolding turns
+  enough zero zero left h k = refl
+  enough zero (suc g) left h k = simp (eq-eqb left 0 (omega arith)) refl
+  enough (suc f) zero left h k = simp (eq-eqb left 0 (omega arith)) refl
+  enough (suc f) (suc g) left h k = go (ℕ-discrete left 0) (λ less x y. enough f g less x y)
     where
-      one : (l : ℕ) → (l ≡ 0 → ⊥) → memFrom read stop len l 0 ≡ turn read (stop - l) (len - l) l (λ moved. memFrom read stop len (l - 1) (moved - 1))
-      one zero h = absurd (h refl)
-      one (suc l) h = ap (λ (n : ℕ). turn read (stop - suc l) (len - suc l) (suc l) (λ moved. memFrom read stop len n (moved - 1))) (less l)
+      go : Dec (left ≡ 0) → ((less : ℕ) → less ≤ f → less ≤ g → turns f read stop len less ≡ turns g read stop len less)
+          → turns (suc f) read stop len left ≡ turns (suc g) read stop len left
+      go (yes e) ih = simp (eq-eqb _ _ e) refl
+      go (no n) ih =
+          let some = moves (stop - left) left n in
+          simp (ne-eqb _ _ n) (ap (λ (j : Job). turn read (stop - left) (len - left) left >> j)
+          (ih (left - moved (stop - left) left) (fewer left (moved (stop - left) left) f h some) (fewer left (moved (stop - left) left) g k some)))
 
-  mem-next : (moved : ℕ) → 1 ≤ moved → moved ≤ left → memFrom read stop len (left - 1) (moved - 1) ≡ memFrom read stop len (left - moved) 0
-  mem-next moved h k = mem-passed read stop len (left - 1) (moved - 1) (omega arith) ∙ ap (λ (n : ℕ). memFrom read stop len n 0) (omega arith)
+  mem-turn : (left : ℕ) → (left ≡ 0 → ⊥)
+      → memFrom read stop len left ≡ (turn read (stop - left) (len - left) left >> memFrom read stop len (left - moved (stop - left) left))
+  unfolding turns
+  mem-turn zero some = absurd (some refl)
+  mem-turn (suc l) some =
+      simp (ne-eqb (suc l) 0 some) (ap (λ (j : Job). turn read (stop - suc l) (len - suc l) (suc l) >> j)
+      (enough l left left (fewer (suc l) (moved (stop - suc l) (suc l)) l (omega arith) (moves (stop - suc l) (suc l) some)) (omega arith)))
+    where
+      left : ℕ
+      left = suc l - moved (stop - suc l) (suc l)
 
-  mem-part : (a count : ℕ) → count ≡ min (4 - a % 4) left →
-      moveBytes read a (len - left) (min (4 - a % 4) left) (λ moved. memFrom read stop len (left - 1) (moved - 1))
-      ≡ moveBytes read a (len - left) count (λ moved. memFrom read stop len (left - moved) 0)
-  mem-part a count h =
-      rw h (ap (λ (j : Job). movePart read a (len - left) (min (4 - a % 4) left) >> j) (mem-next (min (4 - a % 4) left) (omega arith) (omega arith)))
+  module _ (left : ℕ) (some : left ≡ 0 → ⊥) (a : ℕ) (here : a ≡ stop - left) where
+    abbrev next : ℕ → Job
+    next moved = memFrom read stop len (left - moved)
 
-  module _ (a : ℕ) (here : a ≡ stop - left) where
     -- n whole words
-    pub turn-run : (n : ℕ) → a % 4 ≡ 0 → 4 ≤ left → n ≡ runWords a (left / 4) →
-        memFrom read stop len left 0 ≡ moveRun read (stop - left) (len - left) n (λ moved. memFrom read stop len (left - moved) 0)
-    turn-run n z f h =
-        mem-turn ∙ rw (← here) (simp (eq-eqb _ _ z) (simp (le-leb _ _ f) (rw h
-        (ap (λ (j : Job). moveWords read a (len - left) (runWords a (left / 4)) >> j)
-        (mem-next (4 * runWords a (left / 4)) (omega arith) (omega arith))))))
+    pub turn-run : (n : ℕ) → a % 4 ≡ 0 → 4 ≤ left → n ≡ runWords a (left / 4)
+        → memFrom read stop len left ≡ moveRun read (stop - left) (len - left) n next
+    turn-run n z f h = mem-turn left some ∙ rw (← here) (simp (eq-eqb _ _ z) (simp (le-leb _ _ f) (rw h refl)))
 
     -- a part of a word: the address stands inside it
-    pub turn-ragged : (count : ℕ) → (a % 4 ≡ 0 → ⊥) → count ≡ min (4 - a % 4) left →
-        memFrom read stop len left 0 ≡ moveBytes read (stop - left) (len - left) count (λ moved. memFrom read stop len (left - moved) 0)
-    turn-ragged count z h = mem-turn ∙ rw (← here) (simp (ne-eqb _ _ z) (mem-part a count h))
+    pub turn-ragged : (count : ℕ) → (a % 4 ≡ 0 → ⊥) → count ≡ partBytes a left
+        → memFrom read stop len left ≡ moveBytes read (stop - left) (len - left) count next
+    turn-ragged count z h = mem-turn left some ∙ rw (← here) (simp (ne-eqb _ _ z) (rw h refl))
 
     -- a part of a word: less than a word is left
-    pub turn-short : (count : ℕ) → a % 4 ≡ 0 → left < 4 → count ≡ min (4 - a % 4) left →
-        memFrom read stop len left 0 ≡ moveBytes read (stop - left) (len - left) count (λ moved. memFrom read stop len (left - moved) 0)
-    turn-short count z f h = mem-turn ∙ rw (← here) (simp (eq-eqb _ _ z) (simp (lt-leb _ _ f) (mem-part a count h)))
+    pub turn-short : (count : ℕ) → a % 4 ≡ 0 → left < 4 → count ≡ partBytes a left
+        → memFrom read stop len left ≡ moveBytes read (stop - left) (len - left) count next
+    turn-short count z f h = mem-turn left some ∙ rw (← here) (simp (eq-eqb _ _ z) (simp (lt-leb _ _ f) (rw h refl)))

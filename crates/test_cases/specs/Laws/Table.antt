@@ -19,7 +19,7 @@ use Rattle.call.specs.Bytes.{storeWords, storePart, patchBytes}
 use Rattle.call.specs.Change.{fresh}
 use Rattle.call.specs.Job.{exec}
 use Rattle.call_connect.specs.Connect.{ones, parity}
-use Rattle.call_memory.specs.Memory.{runWords, memFrom, memoryJob}
+use Rattle.call_memory.specs.Memory.{runWords, turns, memoryJob}
 use Rattle.call_memory.specs.declared.MemoryCall.the-variants as M
 use Rattle.call_fpb.specs.Breakpoint.{fpbCompValue}
 use Rattle.call_fpb.specs.declared.CompValue.the-variants as P
@@ -70,7 +70,7 @@ pub record Table : Type 0 where
 
 pub table : Table
 unfolding outputOf wellFormed requestOf wordsOf bytesOf goodAnswers BigEndian.row performed requestText digits hex together callLines play tries
-    transfer raw exec memoryJob memFrom perform pull push storeWords storePart patchBytes ones
+    transfer raw exec memoryJob turns perform pull push storeWords storePart patchBytes ones
 table = record {
   listed = refl;
   waits-64 = λ v. record { ending = refl; calls = refl };
