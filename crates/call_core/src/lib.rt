@@ -5,15 +5,19 @@
 // Calls 15 to 25: the core's run state and registers, the bootrom's table, and functions called on the core. Each function
 // says what a call asks for next.
 ghost use mathlib.Core.Path.{_≡_};
-ghost use Prim.Native.Nat.{_-_, _<_};
+ghost use Prim.Native.Nat.{_-_, _/_, _%_, _<_};
+ghost use lib.Dec.{eqb};
 ghost use lib.ListN.{getD};
 ghost use Rattle.wire_memap.specs.declared.Op.the-variants.{ReadWord, WriteWord};
 ghost use Rattle.call.specs.Job.{ends, attempt, orFail};
 ghost use Rattle.call.specs.Laws.Asks.{asks, keepSome, nextJob, opThen};
 ghost use Rattle.call_core.specs.Cortex as Cortex;
 ghost use Rattle.call_core.specs.Function.{coreJob, ROM-TABLE-PTRS, joined, lookFrom, clobbered, writeRowReg, finishFunction, afterWait};
-ghost use Rattle.call_core.specs.Laws.After.{bitOf, waiting, polled, accessOn, accessAfter, entryOf, tabled, matching, findOn, ending, looking, looked, setting, saving, beginning, restoring, resulting, runOn, overOn, thenOn, goesOn, stopsAt, coreAfter};
+ghost use Rattle.call_core.specs.Laws.After.{bitOf, waiting, polled, accessOn, accessAfter, entryOf, tabled, matching, findOn, ending, looking, looked, setting, saving, beginning, restoring, resulting, runOn, overOn, thenOn, goesOn, stopsAt, phaseAfter, accessOf, findOf, runOf, outcomeOf, planOf, thenOf, coreAtOf, coreAfter};
+ghost use Rattle.call_core.specs.declared.CoreAt.the-variants.{Access};
 ghost use Rattle.call_core.specs.declared.Wait.the-variants.{Halt};
+use call::Asks;
+use call::At;
 use call::Change;
 use call::Next;
 use wire::ArmError;
@@ -128,17 +132,16 @@ pub enum CoreAt {
     },
 }
 
-// What a call asks for: a change, and then an operation or its end.
-pub struct CoreAsks {
-    pub change: Change,
-    pub at: CoreAt,
-    pub next: Next,
-}
-
 // What an access asks for.
 struct AccessAsks {
     at: AccessAt,
     next: Next,
+}
+
+// An access or an outcome in numbers: which one it is, and the value that it has.
+struct Numbers {
+    kind: u32,
+    n: u32,
 }
 
 // Debug registers of the core.
@@ -292,24 +295,311 @@ fn access_on(p: AccessAt, v: u32) -> AccessAsks
     }
 }
 
+// Half a word as a word, which is that half again.
+fn wide_half(x: u16) -> u32
+    ensures { λ r. ⌜ r % 65536 ≡ x ⌝ }
+{
+    x as u32
+}
+
+// A number and a flag in one.
+fn with_flag(kind: u32, flag: bool) -> u32
+    requires { ⌜ kind < 16 ⌝ }
+    ensures { λ r. ⌜ (r / 2 ≡ kind) × (eqb (r % 2) 1 ≡ flag) ⌝ }
+{
+    if flag {
+        return 2 * kind + 1;
+    }
+    2 * kind
+}
+
+// Which operation of an access is in flight, in numbers.
+fn access_numbers(at: AccessAt) -> Numbers
+    ensures { λ r. ⌜ (accessOf (r .kind) (r .n) ≡ at) × (r .kind < 16) ⌝ }
+{
+    match at {
+        AccessAt::Whole => Numbers { kind: 0, n: 0 },
+        AccessAt::Halted => Numbers { kind: 1, n: 0 },
+        AccessAt::Asked(w) => match w {
+            Wait::Halt => Numbers { kind: 2, n: 0 },
+            Wait::Read => Numbers { kind: 3, n: 0 },
+            Wait::Write => Numbers { kind: 4, n: 0 },
+        },
+        AccessAt::Poll { wait, left } => match wait {
+            Wait::Halt => Numbers { kind: 5, n: left },
+            Wait::Read => Numbers { kind: 6, n: left },
+            Wait::Write => Numbers { kind: 7, n: left },
+        },
+        AccessAt::Data(reg) => Numbers {
+            kind: 8,
+            n: call::wide(reg),
+        },
+    }
+}
+
+fn access_of(kind: u32, n: u32) -> AccessAt
+    ensures { λ r. ⌜ r ≡ accessOf kind n ⌝ }
+{
+    match kind {
+        0 => AccessAt::Whole,
+        1 => AccessAt::Halted,
+        2 => AccessAt::Asked(Wait::Halt),
+        3 => AccessAt::Asked(Wait::Read),
+        4 => AccessAt::Asked(Wait::Write),
+        5 => AccessAt::Poll {
+            wait: Wait::Halt,
+            left: n,
+        },
+        6 => AccessAt::Poll {
+            wait: Wait::Read,
+            left: n,
+        },
+        7 => AccessAt::Poll {
+            wait: Wait::Write,
+            left: n,
+        },
+        _ => AccessAt::Data((n % 256) as u8),
+    }
+}
+
+// Which read of a search is in flight, as a number.
+fn find_number(step: FindStep) -> u32
+    ensures { λ r. ⌜ findOf r ≡ step ⌝ }
+{
+    match step {
+        FindStep::Table => 0,
+        FindStep::Entry => 1,
+        FindStep::Low => 2,
+        FindStep::High => 3,
+    }
+}
+
+fn find_of(n: u32) -> FindStep
+    ensures { λ r. ⌜ r ≡ findOf n ⌝ }
+{
+    match n {
+        0 => FindStep::Table,
+        1 => FindStep::Entry,
+        2 => FindStep::Low,
+        _ => FindStep::High,
+    }
+}
+
+// Which operation of a function's first half is in flight, as a number.
+fn run_number(step: RunStep) -> u32
+    ensures { λ r. ⌜ (runOf r ≡ step) × (r < 16) ⌝ }
+{
+    match step {
+        RunStep::Planted => 0,
+        RunStep::Masked => 1,
+        RunStep::Released => 2,
+        RunStep::Look => 3,
+    }
+}
+
+fn run_of(n: u32) -> RunStep
+    ensures { λ r. ⌜ r ≡ runOf n ⌝ }
+{
+    match n {
+        0 => RunStep::Planted,
+        1 => RunStep::Masked,
+        2 => RunStep::Released,
+        _ => RunStep::Look,
+    }
+}
+
+// The outcome of the wait for a function's end, in numbers.
+fn outcome_numbers(o: Outcome) -> Numbers
+    ensures { λ r. ⌜ outcomeOf (r .kind) (r .n) ≡ o ⌝ }
+{
+    match o {
+        Outcome::Value(v) => Numbers { kind: 0, n: v },
+        Outcome::Failed(e) => match e {
+            ArmError::Transfer(ack) => Numbers {
+                kind: 1,
+                n: call::wide(ack),
+            },
+            ArmError::Wait => Numbers { kind: 2, n: 0 },
+            ArmError::NotSupported => Numbers { kind: 3, n: 0 },
+            ArmError::PowerUpTimeout => Numbers { kind: 4, n: 0 },
+            ArmError::CoreTimeout => Numbers { kind: 5, n: 0 },
+            ArmError::NoTarget => Numbers { kind: 6, n: 0 },
+            ArmError::Internal => Numbers { kind: 7, n: 0 },
+            ArmError::Range => Numbers { kind: 8, n: 0 },
+            ArmError::Align => Numbers { kind: 9, n: 0 },
+            ArmError::NoSession => Numbers { kind: 10, n: 0 },
+            ArmError::TableEnd => Numbers { kind: 11, n: 0 },
+        },
+    }
+}
+
+fn outcome_of(kind: u32, n: u32) -> Outcome
+    ensures { λ r. ⌜ r ≡ outcomeOf kind n ⌝ }
+{
+    match kind {
+        0 => Outcome::Value(n),
+        1 => Outcome::Failed(ArmError::Transfer((n % 256) as u8)),
+        2 => Outcome::Failed(ArmError::Wait),
+        3 => Outcome::Failed(ArmError::NotSupported),
+        4 => Outcome::Failed(ArmError::PowerUpTimeout),
+        5 => Outcome::Failed(ArmError::CoreTimeout),
+        6 => Outcome::Failed(ArmError::NoTarget),
+        7 => Outcome::Failed(ArmError::Internal),
+        8 => Outcome::Failed(ArmError::Range),
+        9 => Outcome::Failed(ArmError::Align),
+        10 => Outcome::Failed(ArmError::NoSession),
+        _ => Outcome::Failed(ArmError::TableEnd),
+    }
+}
+
+// An access in flight, in numbers: what it is for counts by 8.
+fn pack_access(at: AccessAt, then: Then) -> At
+    ensures { λ r. ⌜ coreAtOf r ≡ Access at then ⌝ }
+{
+    let x = access_numbers(at);
+    match then {
+        Then::End => call::at_step(call::CORE, x.n, 0, 0, 0, with_flag(x.kind, false)),
+        Then::Save { left, plan } => call::at_step(
+            call::CORE + 8,
+            x.n,
+            left,
+            plan.trampoline,
+            plan.polls,
+            with_flag(x.kind, plan.finish),
+        ),
+        Then::Set { left, plan } => call::at_step(
+            call::CORE + 16,
+            x.n,
+            left,
+            plan.trampoline,
+            plan.polls,
+            with_flag(x.kind, plan.finish),
+        ),
+        Then::Result => call::at_step(call::CORE + 24, x.n, 0, 0, 0, with_flag(x.kind, false)),
+        Then::Restore { left, value } => call::at_step(
+            call::CORE + 32,
+            x.n,
+            left,
+            value,
+            0,
+            with_flag(x.kind, false),
+        ),
+    }
+}
+
+// Which operation is in flight, in numbers.
+fn pack(p: CoreAt) -> At
+    ensures { λ r. ⌜ coreAtOf r ≡ p ⌝ }
+{
+    match p {
+        CoreAt::Access { at, then } => pack_access(at, then),
+        CoreAt::Find { step, low, search } => call::at_step(
+            call::CORE + 1,
+            low,
+            search.want,
+            wide_half(search.table),
+            wide_half(search.left),
+            find_number(step),
+        ),
+        CoreAt::Run { step, left, plan } => call::at_step(
+            call::CORE + 2,
+            left,
+            0,
+            plan.trampoline,
+            plan.polls,
+            with_flag(run_number(step), plan.finish),
+        ),
+        CoreAt::Wait(left) => call::at_step(call::CORE + 3, left, 0, 0, 0, 0),
+        CoreAt::Over { unmasked, waited } => {
+            let w = outcome_numbers(waited);
+            call::at_step(call::CORE + 4, w.n, w.kind, 0, 0, call::flag(unmasked))
+        }
+    }
+}
+
+fn plan_of(at: At) -> Plan
+    ensures { λ r. ⌜ r ≡ planOf at ⌝ }
+{
+    Plan {
+        trampoline: at.c,
+        finish: at.e % 2 == 1,
+        polls: at.d,
+    }
+}
+
+// What an access in flight is for.
+fn then_of(at: At) -> Then
+    ensures { λ r. ⌜ r ≡ thenOf at ⌝ }
+{
+    let n = at.step / 8 % 8;
+    match n {
+        0 => Then::End,
+        1 => Then::Save {
+            left: at.b,
+            plan: plan_of(at),
+        },
+        2 => Then::Set {
+            left: at.b,
+            plan: plan_of(at),
+        },
+        3 => Then::Result,
+        _ => Then::Restore {
+            left: at.b,
+            value: at.c,
+        },
+    }
+}
+
+// Which operation is in flight.
+fn unpack(at: At) -> CoreAt
+    ensures { λ r. ⌜ r ≡ coreAtOf at ⌝ }
+{
+    let n = at.step % 8;
+    match n {
+        0 => CoreAt::Access {
+            at: access_of(at.e / 2, at.a),
+            then: then_of(at),
+        },
+        1 => CoreAt::Find {
+            step: find_of(at.e),
+            low: at.a,
+            search: Search {
+                want: at.b,
+                table: (at.c % 65536) as u16,
+                left: (at.d % 65536) as u16,
+            },
+        },
+        2 => CoreAt::Run {
+            step: run_of(at.e / 2),
+            left: at.a,
+            plan: plan_of(at),
+        },
+        3 => CoreAt::Wait(at.a),
+        _ => CoreAt::Over {
+            unmasked: at.e == 1,
+            waited: outcome_of(at.b, at.a),
+        },
+    }
+}
+
 // The call ends.
-fn ended(o: Outcome) -> CoreAsks
+fn ended(o: Outcome) -> Asks
     ensures { λ r. ⌜ ends o ≡ asks (r .change) (r .next) (coreAfter (r .at)) ⌝ }
 {
-    CoreAsks {
+    Asks {
         change: Change::Nothing,
-        at: CoreAt::Wait(0),
+        at: call::at_step(0, 0, 0, 0, 0, 0),
         next: Next::End(o),
     }
 }
 
 // The operation `op`, and nothing is changed before it.
-fn doing(at: CoreAt, op: Op) -> CoreAsks
-    ensures { λ r. ⌜ opThen op (coreAfter at) ≡ asks (r .change) (r .next) (coreAfter (r .at)) ⌝ }
+fn doing(at: CoreAt, op: Op) -> Asks
+    ensures { λ r. ⌜ opThen op (phaseAfter at) ≡ asks (r .change) (r .next) (coreAfter (r .at)) ⌝ }
 {
-    CoreAsks {
+    Asks {
         change: Change::Nothing,
-        at: at,
+        at: pack(at),
         next: Next::Do(op),
     }
 }
@@ -335,7 +625,7 @@ fn join(skip: u32, low: u32, high: u32) -> u32
 }
 
 // A read of a search.
-fn finding(step: FindStep, low: u32, s: Search, addr: u32) -> CoreAsks
+fn finding(step: FindStep, low: u32, s: Search, addr: u32) -> Asks
     ensures { λ r. ⌜ opThen (ReadWord addr) (orFail (findOn step low s)) ≡ asks (r .change) (r .next) (coreAfter (r .at)) ⌝ }
 {
     doing(
@@ -349,7 +639,7 @@ fn finding(step: FindStep, low: u32, s: Search, addr: u32) -> CoreAsks
 }
 
 // The next entry is read: in one word, or in two.
-fn find_next(s: Search) -> CoreAsks
+fn find_next(s: Search) -> Asks
     ensures { λ r. ⌜ lookFrom (s .want) (s .table) (s .left) ≡ asks (r .change) (r .next) (coreAfter (r .at)) ⌝ }
 {
     if s.left == 0 {
@@ -363,7 +653,7 @@ fn find_next(s: Search) -> CoreAsks
 }
 
 // The search for a function's code, from its start.
-fn look_up(want: u32) -> CoreAsks
+fn look_up(want: u32) -> Asks
     ensures { λ r. ⌜ opThen (ReadWord ROM-TABLE-PTRS) (orFail (tabled want)) ≡ asks (r .change) (r .next) (coreAfter (r .at)) ⌝ }
 {
     finding(
@@ -379,7 +669,7 @@ fn look_up(want: u32) -> CoreAsks
 }
 
 // An entry is read: the table's end, the function, or another one.
-fn matched(s: Search, entry: u32) -> CoreAsks
+fn matched(s: Search, entry: u32) -> Asks
     ensures { λ r. ⌜ matching s entry ≡ asks (r .change) (r .next) (coreAfter (r .at)) ⌝ }
 {
     let tag = entry % 0x10000;
@@ -398,7 +688,7 @@ fn matched(s: Search, entry: u32) -> CoreAsks
 }
 
 // What follows a read of a search that gave `v`.
-fn find_on(step: FindStep, low: u32, s: Search, v: u32) -> CoreAsks
+fn find_on(step: FindStep, low: u32, s: Search, v: u32) -> Asks
     ensures { λ r. ⌜ findOn step low s v ≡ asks (r .change) (r .next) (coreAfter (r .at)) ⌝ }
 {
     let entry = entry_of(s);
@@ -415,12 +705,12 @@ fn find_on(step: FindStep, low: u32, s: Search, v: u32) -> CoreAsks
 }
 
 // A write of a function's call, after a change.
-fn writing(change: Change, at: CoreAt, addr: u32, word: u32) -> CoreAsks
-    ensures { λ r. ⌜ keepSome change (opThen (WriteWord addr word) (coreAfter at)) ≡ asks (r .change) (r .next) (coreAfter (r .at)) ⌝ }
+fn writing(change: Change, at: CoreAt, addr: u32, word: u32) -> Asks
+    ensures { λ r. ⌜ keepSome change (opThen (WriteWord addr word) (phaseAfter at)) ≡ asks (r .change) (r .next) (coreAfter (r .at)) ⌝ }
 {
-    CoreAsks {
+    Asks {
         change: change,
-        at: at,
+        at: pack(at),
         next: Next::Do(Op::WriteWord {
             addr: addr,
             word: word,
@@ -429,7 +719,7 @@ fn writing(change: Change, at: CoreAt, addr: u32, word: u32) -> CoreAsks
 }
 
 // The last `left` registers of the frame are saved, and then the trampoline is planted. `change` comes first.
-fn save_on(change: Change, left: u32, plan: Plan) -> CoreAsks
+fn save_on(change: Change, left: u32, plan: Plan) -> Asks
     ensures { λ r. ⌜ keepSome change (saving left plan) ≡ asks (r .change) (r .next) (coreAfter (r .at)) ⌝ }
 {
     if left == 0 {
@@ -462,7 +752,7 @@ fn save_on(change: Change, left: u32, plan: Plan) -> CoreAsks
 }
 
 // A register of the frame is written with the row's word at `place`.
-fn register_set(i: u32, then: Then, place: u32) -> CoreAsks
+fn register_set(i: u32, then: Then, place: u32) -> Asks
     ensures { λ r. ⌜ attempt (writeRowReg (getD clobbered i 0) place) (orFail (thenOn then)) ≡ asks (r .change) (r .next) (coreAfter (r .at)) ⌝ }
 {
     let at = AccessAt::Data(register_at(i));
@@ -477,7 +767,7 @@ fn register_set(i: u32, then: Then, place: u32) -> CoreAsks
 }
 
 // DHCSR is written in a function's first half.
-fn running(step: RunStep, plan: Plan, word: u32) -> CoreAsks
+fn running(step: RunStep, plan: Plan, word: u32) -> Asks
     ensures { λ r. ⌜ opThen (WriteWord Cortex.DHCSR word) (orFail (runOn step 0 plan)) ≡ asks (r .change) (r .next) (coreAfter (r .at)) ⌝ }
 {
     doing(
@@ -494,7 +784,7 @@ fn running(step: RunStep, plan: Plan, word: u32) -> CoreAsks
 }
 
 // The last `left` registers get what a function starts with, and then the core is to be released.
-fn set_on(left: u32, plan: Plan) -> CoreAsks
+fn set_on(left: u32, plan: Plan) -> Asks
     ensures { λ r. ⌜ setting left plan ≡ asks (r .change) (r .next) (coreAfter (r .at)) ⌝ }
 {
     if left == 0 {
@@ -512,7 +802,7 @@ fn set_on(left: u32, plan: Plan) -> CoreAsks
 }
 
 // The last `left` registers of the frame are restored, and then the call ends.
-fn restore_on(left: u32, value: u32) -> CoreAsks
+fn restore_on(left: u32, value: u32) -> Asks
     ensures { λ r. ⌜ restoring left value ≡ asks (r .change) (r .next) (coreAfter (r .at)) ⌝ }
 {
     if left == 0 {
@@ -530,7 +820,7 @@ fn restore_on(left: u32, value: u32) -> CoreAsks
 }
 
 // An access gave the value `v`.
-fn then_on(t: Then, v: u32) -> CoreAsks
+fn then_on(t: Then, v: u32) -> Asks
     ensures { λ r. ⌜ thenOn t v ≡ asks (r .change) (r .next) (coreAfter (r .at)) ⌝ }
 {
     match t {
@@ -550,7 +840,7 @@ fn then_on(t: Then, v: u32) -> CoreAsks
 }
 
 // An access goes on, or is over.
-fn follow(t: Then, a: AccessAsks) -> CoreAsks
+fn follow(t: Then, a: AccessAsks) -> Asks
     ensures { λ r. ⌜ attempt (nextJob (a .next) (accessAfter (a .at))) (orFail (thenOn t)) ≡ asks (r .change) (r .next) (coreAfter (r .at)) ⌝ }
 {
     let at = a.at;
@@ -565,7 +855,7 @@ fn follow(t: Then, a: AccessAsks) -> CoreAsks
 }
 
 // The wait for a function's end is over: the core is halted, whatever came of it.
-fn halt_again(waited: Outcome) -> CoreAsks
+fn halt_again(waited: Outcome) -> Asks
     ensures { λ r. ⌜ afterWait waited ≡ asks (r .change) (r .next) (coreAfter (r .at)) ⌝ }
 {
     doing(
@@ -581,7 +871,7 @@ fn halt_again(waited: Outcome) -> CoreAsks
 }
 
 // The second half of a function's call: `left` more reads of DHCSR.
-fn finish(left: u32) -> CoreAsks
+fn finish(left: u32) -> Asks
     ensures { λ r. ⌜ finishFunction left ≡ asks (r .change) (r .next) (coreAfter (r .at)) ⌝ }
 {
     if left == 0 {
@@ -591,7 +881,7 @@ fn finish(left: u32) -> CoreAsks
 }
 
 // DHCSR is read in the wait for a function's end.
-fn waited_by(left: u32, v: u32) -> CoreAsks
+fn waited_by(left: u32, v: u32) -> Asks
     ensures { λ r. ⌜ attempt (polled Halt left v) afterWait ≡ asks (r .change) (r .next) (coreAfter (r .at)) ⌝ }
 {
     if v / S_HALT % 2 == 1 {
@@ -601,7 +891,7 @@ fn waited_by(left: u32, v: u32) -> CoreAsks
 }
 
 // Interrupts are unmasked: r0 is read, or the wait's error ends the call.
-fn result_of(waited: Outcome) -> CoreAsks
+fn result_of(waited: Outcome) -> Asks
     ensures { λ r. ⌜ resulting waited ≡ asks (r .change) (r .next) (coreAfter (r .at)) ⌝ }
 {
     match waited {
@@ -619,7 +909,7 @@ fn result_of(waited: Outcome) -> CoreAsks
 }
 
 // What follows a write of DHCSR after that wait.
-fn over_on(unmasked: bool, waited: Outcome) -> CoreAsks
+fn over_on(unmasked: bool, waited: Outcome) -> Asks
     ensures { λ r. ⌜ overOn unmasked waited ≡ asks (r .change) (r .next) (coreAfter (r .at)) ⌝ }
 {
     if unmasked {
@@ -638,7 +928,7 @@ fn over_on(unmasked: bool, waited: Outcome) -> CoreAsks
 }
 
 // The first half of a function's call is over.
-fn end_of(plan: Plan) -> CoreAsks
+fn end_of(plan: Plan) -> Asks
     ensures { λ r. ⌜ ending plan ≡ asks (r .change) (r .next) (coreAfter (r .at)) ⌝ }
 {
     if plan.finish {
@@ -648,7 +938,7 @@ fn end_of(plan: Plan) -> CoreAsks
 }
 
 // `left` more looks whether the core runs.
-fn look_on(left: u32, plan: Plan) -> CoreAsks
+fn look_on(left: u32, plan: Plan) -> Asks
     ensures { λ r. ⌜ looking left plan ≡ asks (r .change) (r .next) (coreAfter (r .at)) ⌝ }
 {
     if left == 0 {
@@ -665,7 +955,7 @@ fn look_on(left: u32, plan: Plan) -> CoreAsks
 }
 
 // DHCSR is read in a look whether the core runs.
-fn looked_by(left: u32, plan: Plan, v: u32) -> CoreAsks
+fn looked_by(left: u32, plan: Plan, v: u32) -> Asks
     ensures { λ r. ⌜ looked left plan v ≡ asks (r .change) (r .next) (coreAfter (r .at)) ⌝ }
 {
     if v / S_HALT % 2 == 1 {
@@ -675,7 +965,7 @@ fn looked_by(left: u32, plan: Plan, v: u32) -> CoreAsks
 }
 
 // What follows an operation of a function's first half.
-fn run_on(step: RunStep, left: u32, plan: Plan, v: u32) -> CoreAsks
+fn run_on(step: RunStep, left: u32, plan: Plan, v: u32) -> Asks
     ensures { λ r. ⌜ runOn step left plan v ≡ asks (r .change) (r .next) (coreAfter (r .at)) ⌝ }
 {
     match step {
@@ -687,7 +977,7 @@ fn run_on(step: RunStep, left: u32, plan: Plan, v: u32) -> CoreAsks
 }
 
 // The first half of a function's call, from its start.
-fn begin(f: Function, finish: bool, polls: u32) -> CoreAsks
+fn begin(f: Function, finish: bool, polls: u32) -> Asks
     ensures { λ r. ⌜ beginning f finish polls ≡ asks (r .change) (r .next) (coreAfter (r .at)) ⌝ }
 {
     let t = f.trampoline;
@@ -712,7 +1002,7 @@ fn begin(f: Function, finish: bool, polls: u32) -> CoreAsks
 }
 
 // A call that is one access.
-fn alone(at: AccessAt, op: Op) -> CoreAsks
+fn alone(at: AccessAt, op: Op) -> Asks
     ensures { λ r. ⌜ opThen op (accessAfter at) ≡ asks (r .change) (r .next) (coreAfter (r .at)) ⌝ }
 {
     doing(
@@ -725,7 +1015,7 @@ fn alone(at: AccessAt, op: Op) -> CoreAsks
 }
 
 // What a call asks for first.
-pub fn start(c: CoreCall) -> CoreAsks
+pub fn start(c: CoreCall) -> Asks
     ensures { λ r. ⌜ coreJob c ≡ asks (r .change) (r .next) (coreAfter (r .at)) ⌝ }
 {
     match c {
@@ -780,7 +1070,7 @@ pub fn start(c: CoreCall) -> CoreAsks
 }
 
 // What follows an operation that gave the value `v`.
-fn value_after(p: CoreAt, v: u32) -> CoreAsks
+fn value_after(p: CoreAt, v: u32) -> Asks
     ensures { λ r. ⌜ goesOn p v ≡ asks (r .change) (r .next) (coreAfter (r .at)) ⌝ }
 {
     match p {
@@ -793,7 +1083,7 @@ fn value_after(p: CoreAt, v: u32) -> CoreAsks
 }
 
 // An error ends the call, except that of the wait for a function's end.
-fn failed_after(p: CoreAt, e: ArmError) -> CoreAsks
+fn failed_after(p: CoreAt, e: ArmError) -> Asks
     ensures { λ r. ⌜ stopsAt p e ≡ asks (r .change) (r .next) (coreAfter (r .at)) ⌝ }
 {
     match p {
@@ -817,9 +1107,10 @@ fn failed_after(p: CoreAt, e: ArmError) -> CoreAsks
 }
 
 // What a call in flight asks for, now that its operation has ended.
-pub fn call_after(p: CoreAt, o: Outcome) -> CoreAsks
-    ensures { λ r. ⌜ coreAfter p o ≡ asks (r .change) (r .next) (coreAfter (r .at)) ⌝ }
+pub fn call_after(at: At, o: Outcome) -> Asks
+    ensures { λ r. ⌜ coreAfter at o ≡ asks (r .change) (r .next) (coreAfter (r .at)) ⌝ }
 {
+    let p = unpack(at);
     match o {
         Outcome::Value(v) => value_after(p, v),
         Outcome::Failed(e) => failed_after(p, e),

@@ -4,17 +4,19 @@
 
 // Calls 29 to 35: protection, mass erase and flash of Nordic chips. Each function says what a call asks for next; none of them touches the line.
 ghost use mathlib.Core.Path.{_≡_};
-ghost use Prim.Native.Nat.{_-_, _*_, _+_};
+ghost use Prim.Native.Nat.{_-_, _*_, _+_, _/_, _%_, _<_};
 ghost use Rattle.wire_memap.specs.Words.{tarRun};
 ghost use Rattle.call.specs.Laws.Asks.{asks, opThen};
 ghost use Rattle.call.specs.Job.{ends};
 ghost use Rattle.call_nrf.specs.Nrf.{nrfJob, nrf52ApprotectStatus, nrf54ApprotectStatus, readStatus, softReset, pollErased, eraseAll, nrf52ErasePage, programmable};
-ghost use Rattle.call_nrf.specs.Laws.After.{nrfAfter, goesOn, onPort, leaves, afterErased, releasing, released, config, ready, closing, writes, finishing, programming, flashing, waiting, afterReady, flashAfter, enabling};
-ghost use Rattle.call_nrf.specs.declared.NrfAt.the-variants.{Status};
+ghost use Rattle.call_nrf.specs.Laws.After.{nrfAfter, phaseAfter, nrfAtOf, chipOf, stepOf, flashOf, goesOn, onPort, leaves, afterErased, releasing, released, config, ready, closing, writes, finishing, programming, flashing, waiting, afterReady, flashAfter, enabling};
+ghost use Rattle.call_nrf.specs.declared.NrfAt.the-variants as P;
 
 mod nrf52;
 mod nrf54;
 
+use call::Asks;
+use call::At;
 use call::Change;
 use call::Next;
 use wire::ArmError;
@@ -76,10 +78,19 @@ pub enum NrfAt {
     Last,
 }
 
-pub struct NrfAsks {
-    pub change: Change,
-    pub at: NrfAt,
-    pub next: Next,
+// A step of the flash in numbers: which one it is, and its count.
+struct StepNumbers {
+    kind: u32,
+    count: u32,
+}
+
+// What is done next with the flash, in numbers.
+struct FlashNumbers {
+    kind: u32,
+    b: u32,
+    c: u32,
+    d: u32,
+    e: u32,
 }
 
 // As many addresses as a target has: 2^32.
@@ -106,53 +117,194 @@ fn tar_run(addr: u32, words: u32) -> u32
     words
 }
 
+fn chip_number(chip: Chip) -> u32
+    ensures { λ r. ⌜ (chipOf r ≡ chip) × (r < 2) ⌝ }
+{
+    match chip {
+        Chip::Nrf52 => 0,
+        Chip::Nrf54 => 1,
+    }
+}
+
+fn chip_of(n: u32) -> Chip
+    ensures { λ r. ⌜ r ≡ chipOf n ⌝ }
+{
+    match n {
+        0 => Chip::Nrf52,
+        _ => Chip::Nrf54,
+    }
+}
+
+fn step_numbers(step: FlashStep) -> StepNumbers
+    ensures { λ r. ⌜ (stepOf (r .kind) (r .count) ≡ step) × (r .kind < 4) ⌝ }
+{
+    match step {
+        FlashStep::Settle(polls) => StepNumbers {
+            kind: 0,
+            count: polls,
+        },
+        FlashStep::Wait(left) => StepNumbers {
+            kind: 1,
+            count: left,
+        },
+        FlashStep::Next => StepNumbers { kind: 2, count: 0 },
+    }
+}
+
+fn step_of(kind: u32, count: u32) -> FlashStep
+    ensures { λ r. ⌜ r ≡ stepOf kind count ⌝ }
+{
+    match kind {
+        0 => FlashStep::Settle(count),
+        1 => FlashStep::Wait(count),
+        _ => FlashStep::Next,
+    }
+}
+
+fn flash_numbers(then: Flash) -> FlashNumbers
+    ensures { λ r. ⌜ (flashOf (r .kind) (r .b) (r .c) (r .d) (r .e) ≡ then) × (r .kind < 4) ⌝ }
+{
+    match then {
+        Flash::Page { page, polls } => FlashNumbers {
+            kind: 0,
+            b: page,
+            c: 0,
+            d: 0,
+            e: polls,
+        },
+        Flash::Words(p) => FlashNumbers {
+            kind: 1,
+            b: p.stop,
+            c: p.len,
+            d: p.left,
+            e: p.polls,
+        },
+        Flash::Close => FlashNumbers {
+            kind: 2,
+            b: 0,
+            c: 0,
+            d: 0,
+            e: 0,
+        },
+    }
+}
+
+fn flash_of(kind: u32, b: u32, c: u32, d: u32, e: u32) -> Flash
+    ensures { λ r. ⌜ r ≡ flashOf kind b c d e ⌝ }
+{
+    match kind {
+        0 => Flash::Page { page: b, polls: e },
+        1 => Flash::Words(Program {
+            stop: b,
+            len: c,
+            left: d,
+            polls: e,
+        }),
+        _ => Flash::Close,
+    }
+}
+
+// The number of an operation of the flash: its step counts by 8, the chip by 64, what is done then by 256.
+fn flash_number(step: u32, chip: u32, then: u32) -> u32
+    requires { ⌜ (step < 4) × (chip < 2) × (then < 4) ⌝ }
+    ensures { λ r. ⌜ (r % 8 ≡ 6) × (r / 8 % 4 ≡ step) × (r / 64 % 2 ≡ chip) × (r / 256 % 4 ≡ then) ⌝ }
+{
+    call::NRF + 6 + 8 * step + 64 * chip + 256 * then
+}
+
+fn pack_flash(step: FlashStep, chip: Chip, then: Flash) -> At
+    ensures { λ r. ⌜ nrfAtOf r ≡ P.Flash step chip then ⌝ }
+{
+    let s = step_numbers(step);
+    let c = chip_number(chip);
+    let f = flash_numbers(then);
+    call::at_step(flash_number(s.kind, c, f.kind), s.count, f.b, f.c, f.d, f.e)
+}
+
+// Which operation is in flight, in numbers.
+fn pack(p: NrfAt) -> At
+    ensures { λ r. ⌜ nrfAtOf r ≡ p ⌝ }
+{
+    match p {
+        NrfAt::Idr => call::at_step(call::NRF, 0, 0, 0, 0, 0),
+        NrfAt::Status(known) => call::at_step(call::NRF + 1, call::flag(known), 0, 0, 0, 0),
+        NrfAt::EraseAll(polls) => call::at_step(call::NRF + 2, polls, 0, 0, 0, 0),
+        NrfAt::Erasing(left) => call::at_step(call::NRF + 3, left, 0, 0, 0, 0),
+        NrfAt::Reset(erased) => call::at_step(call::NRF + 4, call::flag(erased), 0, 0, 0, 0),
+        NrfAt::Release(erased) => call::at_step(call::NRF + 5, call::flag(erased), 0, 0, 0, 0),
+        NrfAt::Flash { step, chip, then } => pack_flash(step, chip, then),
+        NrfAt::Last => call::at_step(call::NRF + 7, 0, 0, 0, 0, 0),
+    }
+}
+
+// Which operation is in flight.
+fn unpack(at: At) -> NrfAt
+    ensures { λ r. ⌜ r ≡ nrfAtOf at ⌝ }
+{
+    let n = at.step % 8;
+    match n {
+        0 => NrfAt::Idr,
+        1 => NrfAt::Status(at.a == 1),
+        2 => NrfAt::EraseAll(at.a),
+        3 => NrfAt::Erasing(at.a),
+        4 => NrfAt::Reset(at.a == 1),
+        5 => NrfAt::Release(at.a == 1),
+        6 => NrfAt::Flash {
+            step: step_of(at.step / 8 % 4, at.a),
+            chip: chip_of(at.step / 64 % 2),
+            then: flash_of(at.step / 256 % 4, at.b, at.c, at.d, at.e),
+        },
+        _ => NrfAt::Last,
+    }
+}
+
 // The call ends.
-fn ended(o: Outcome) -> NrfAsks
+fn ended(o: Outcome) -> Asks
     ensures { λ r. ⌜ ends o ≡ asks (r .change) (r .next) (nrfAfter (r .at)) ⌝ }
 {
     let change = Change::Nothing;
-    NrfAsks {
+    Asks {
         change: change,
-        at: NrfAt::Last,
+        at: call::at_step(0, 0, 0, 0, 0, 0),
         next: Next::End(o),
     }
 }
 
 // The operation `op`, and nothing is changed before it.
-fn doing(at: NrfAt, op: Op) -> NrfAsks
-    ensures { λ r. ⌜ opThen op (nrfAfter at) ≡ asks (r .change) (r .next) (nrfAfter (r .at)) ⌝ }
+fn doing(at: NrfAt, op: Op) -> Asks
+    ensures { λ r. ⌜ opThen op (phaseAfter at) ≡ asks (r .change) (r .next) (nrfAfter (r .at)) ⌝ }
 {
-    NrfAsks {
+    Asks {
         change: Change::Nothing,
-        at: at,
+        at: pack(at),
         next: Next::Do(op),
     }
 }
 
 // The operation `op`, on the access port `ap`.
-fn selecting(ap: u8, at: NrfAt, op: Op) -> NrfAsks
-    ensures { λ r. ⌜ onPort ap (opThen op (nrfAfter at)) ≡ asks (r .change) (r .next) (nrfAfter (r .at)) ⌝ }
+fn selecting(ap: u8, at: NrfAt, op: Op) -> Asks
+    ensures { λ r. ⌜ onPort ap (opThen op (phaseAfter at)) ≡ asks (r .change) (r .next) (nrfAfter (r .at)) ⌝ }
 {
-    NrfAsks {
+    Asks {
         change: Change::Apsel(ap),
-        at: at,
+        at: pack(at),
         next: Next::Do(op),
     }
 }
 
 // The call ends, and the memory's access port is selected again.
-fn leaving(o: Outcome) -> NrfAsks
+fn leaving(o: Outcome) -> Asks
     ensures { λ r. ⌜ leaves o ≡ asks (r .change) (r .next) (nrfAfter (r .at)) ⌝ }
 {
-    NrfAsks {
+    Asks {
         change: Change::Apsel(0),
-        at: NrfAt::Last,
+        at: call::at_step(0, 0, 0, 0, 0, 0),
         next: Next::End(o),
     }
 }
 
 // The nRF52's CTRL-AP is identified before its status is read.
-fn protection_52() -> NrfAsks
+fn protection_52() -> Asks
     ensures { λ r. ⌜ nrf52ApprotectStatus ≡ asks (r .change) (r .next) (nrfAfter (r .at)) ⌝ }
 {
     selecting(
@@ -164,7 +316,7 @@ fn protection_52() -> NrfAsks
     )
 }
 
-fn protection_54() -> NrfAsks
+fn protection_54() -> Asks
     ensures { λ r. ⌜ nrf54ApprotectStatus ≡ asks (r .change) (r .next) (nrfAfter (r .at)) ⌝ }
 {
     selecting(
@@ -177,7 +329,7 @@ fn protection_54() -> NrfAsks
 }
 
 // APPROTECTSTATUS is read, whether or not CTRL-AP is known.
-fn status_on(known: bool) -> NrfAsks
+fn status_on(known: bool) -> Asks
     ensures { λ r. ⌜ readStatus known ≡ asks (r .change) (r .next) (nrfAfter (r .at)) ⌝ }
 {
     doing(
@@ -189,8 +341,8 @@ fn status_on(known: bool) -> NrfAsks
 }
 
 // APPROTECTSTATUS is read: bit 0 says that access is not protected.
-fn status_by(known: bool, status: u32) -> NrfAsks
-    ensures { λ r. ⌜ goesOn (Status known) status ≡ asks (r .change) (r .next) (nrfAfter (r .at)) ⌝ }
+fn status_by(known: bool, status: u32) -> Asks
+    ensures { λ r. ⌜ goesOn (P.Status known) status ≡ asks (r .change) (r .next) (nrfAfter (r .at)) ⌝ }
 {
     if known {
         return leaving(Outcome::Value(status % 2 + 2));
@@ -199,7 +351,7 @@ fn status_by(known: bool, status: u32) -> NrfAsks
 }
 
 // The mass erase by the CTRL-AP at `ap`.
-fn erase_all(ap: u8, polls: u32) -> NrfAsks
+fn erase_all(ap: u8, polls: u32) -> Asks
     ensures { λ r. ⌜ eraseAll ap polls ≡ asks (r .change) (r .next) (nrfAfter (r .at)) ⌝ }
 {
     selecting(
@@ -213,7 +365,7 @@ fn erase_all(ap: u8, polls: u32) -> NrfAsks
 }
 
 // The soft reset.
-fn soft_reset(erased: bool) -> NrfAsks
+fn soft_reset(erased: bool) -> Asks
     ensures { λ r. ⌜ softReset erased ≡ asks (r .change) (r .next) (nrfAfter (r .at)) ⌝ }
 {
     doing(
@@ -226,7 +378,7 @@ fn soft_reset(erased: bool) -> NrfAsks
 }
 
 // `left` more reads of ERASEALLSTATUS.
-fn erased_on(left: u32) -> NrfAsks
+fn erased_on(left: u32) -> Asks
     ensures { λ r. ⌜ pollErased left ≡ asks (r .change) (r .next) (nrfAfter (r .at)) ⌝ }
 {
     if left == 0 {
@@ -241,7 +393,7 @@ fn erased_on(left: u32) -> NrfAsks
 }
 
 // ERASEALLSTATUS is read: the erase is over, or it is read again.
-fn erased_by(left: u32, status: u32) -> NrfAsks
+fn erased_by(left: u32, status: u32) -> Asks
     ensures { λ r. ⌜ afterErased left status ≡ asks (r .change) (r .next) (nrfAfter (r .at)) ⌝ }
 {
     if status % 2 == 0 {
@@ -251,7 +403,7 @@ fn erased_by(left: u32, status: u32) -> NrfAsks
 }
 
 // The reset is released.
-fn release_on(erased: bool) -> NrfAsks
+fn release_on(erased: bool) -> Asks
     ensures { λ r. ⌜ releasing erased ≡ asks (r .change) (r .next) (nrfAfter (r .at)) ⌝ }
 {
     doing(
@@ -264,7 +416,7 @@ fn release_on(erased: bool) -> NrfAsks
 }
 
 // After the reset the call ends by whether the erase came to its end.
-fn release_by(erased: bool) -> NrfAsks
+fn release_by(erased: bool) -> Asks
     ensures { λ r. ⌜ released erased ≡ asks (r .change) (r .next) (nrfAfter (r .at)) ⌝ }
 {
     if erased {
@@ -294,7 +446,7 @@ fn ready_of(chip: Chip) -> u32
 }
 
 // The flash is closed for writing, by 0 on both chips, and the call ends.
-fn close(chip: Chip) -> NrfAsks
+fn close(chip: Chip) -> Asks
     ensures { λ r. ⌜ closing chip ≡ asks (r .change) (r .next) (nrfAfter (r .at)) ⌝ }
 {
     let addr = config_of(chip);
@@ -308,7 +460,7 @@ fn close(chip: Chip) -> NrfAsks
 }
 
 // All words are written.
-fn finish(chip: Chip, polls: u32) -> NrfAsks
+fn finish(chip: Chip, polls: u32) -> Asks
     ensures { λ r. ⌜ finishing chip polls ≡ asks (r .change) (r .next) (nrfAfter (r .at)) ⌝ }
 {
     match chip {
@@ -331,7 +483,7 @@ fn finish(chip: Chip, polls: u32) -> NrfAsks
 }
 
 // A write to the flash, and what is done then. The nRF52 is waited for after it.
-fn settled(chip: Chip, then: Flash, polls: u32, write: Op) -> NrfAsks
+fn settled(chip: Chip, then: Flash, polls: u32, write: Op) -> Asks
     ensures { λ r. ⌜ writes chip write polls then ≡ asks (r .change) (r .next) (nrfAfter (r .at)) ⌝ }
 {
     match chip {
@@ -355,7 +507,7 @@ fn settled(chip: Chip, then: Flash, polls: u32, write: Op) -> NrfAsks
 }
 
 // The next run of words.
-fn words_on(chip: Chip, p: Program) -> NrfAsks
+fn words_on(chip: Chip, p: Program) -> Asks
     ensures { λ r. ⌜ programming chip p ≡ asks (r .change) (r .next) (nrfAfter (r .at)) ⌝ }
 {
     if p.left == 0 {
@@ -384,7 +536,7 @@ fn words_on(chip: Chip, p: Program) -> NrfAsks
 }
 
 // What is done with the flash, now that it is ready.
-fn flash_on(chip: Chip, then: Flash) -> NrfAsks
+fn flash_on(chip: Chip, then: Flash) -> Asks
     ensures { λ r. ⌜ flashing chip then ≡ asks (r .change) (r .next) (nrfAfter (r .at)) ⌝ }
 {
     match then {
@@ -408,7 +560,7 @@ fn flash_on(chip: Chip, then: Flash) -> NrfAsks
 }
 
 // `left` more reads of READY.
-fn wait_on(chip: Chip, then: Flash, left: u32) -> NrfAsks
+fn wait_on(chip: Chip, then: Flash, left: u32) -> Asks
     ensures { λ r. ⌜ waiting chip then left ≡ asks (r .change) (r .next) (nrfAfter (r .at)) ⌝ }
 {
     if left == 0 {
@@ -426,7 +578,7 @@ fn wait_on(chip: Chip, then: Flash, left: u32) -> NrfAsks
 }
 
 // READY is read: the flash is ready, or it is read again.
-fn ready_by(chip: Chip, then: Flash, left: u32, v: u32) -> NrfAsks
+fn ready_by(chip: Chip, then: Flash, left: u32, v: u32) -> Asks
     ensures { λ r. ⌜ afterReady chip then left v ≡ asks (r .change) (r .next) (nrfAfter (r .at)) ⌝ }
 {
     if v % 2 == 1 {
@@ -436,7 +588,7 @@ fn ready_by(chip: Chip, then: Flash, left: u32, v: u32) -> NrfAsks
 }
 
 // The flash is opened for writing.
-fn enable(chip: Chip, p: Program) -> NrfAsks
+fn enable(chip: Chip, p: Program) -> Asks
     ensures { λ r. ⌜ enabling chip p ≡ asks (r .change) (r .next) (nrfAfter (r .at)) ⌝ }
 {
     let polls = p.polls;
@@ -464,7 +616,7 @@ fn enable(chip: Chip, p: Program) -> NrfAsks
 }
 
 // A program call: refused, over at once, or begun.
-fn program_on(chip: Chip, addr: u32, words: usize, polls: u32) -> NrfAsks
+fn program_on(chip: Chip, addr: u32, words: usize, polls: u32) -> Asks
     ensures { λ r. ⌜ programmable addr words (enabling chip (record { stop = addr + 4 * words; len = words; left = words; polls = polls })) ≡ asks (r .change) (r .next) (nrfAfter (r .at)) ⌝ }
 {
     if words == 0 {
@@ -492,7 +644,7 @@ fn program_on(chip: Chip, addr: u32, words: usize, polls: u32) -> NrfAsks
 }
 
 // A page of the nRF52 is erased.
-fn erase_page(addr: u32, polls: u32) -> NrfAsks
+fn erase_page(addr: u32, polls: u32) -> Asks
     ensures { λ r. ⌜ nrf52ErasePage addr polls ≡ asks (r .change) (r .next) (nrfAfter (r .at)) ⌝ }
 {
     let then = Flash::Page {
@@ -514,7 +666,7 @@ fn erase_page(addr: u32, polls: u32) -> NrfAsks
 }
 
 // What a call asks for first, with as many words as the caller lends.
-pub fn start(c: NrfCall, words: usize) -> NrfAsks
+pub fn start(c: NrfCall, words: usize) -> Asks
     ensures { λ r. ⌜ nrfJob c words ≡ asks (r .change) (r .next) (nrfAfter (r .at)) ⌝ }
 {
     match c {
@@ -529,7 +681,7 @@ pub fn start(c: NrfCall, words: usize) -> NrfAsks
 }
 
 // What follows an operation of the flash that gave the value `v`.
-fn flash_after(step: FlashStep, chip: Chip, then: Flash, v: u32) -> NrfAsks
+fn flash_after(step: FlashStep, chip: Chip, then: Flash, v: u32) -> Asks
     ensures { λ r. ⌜ flashAfter step chip then v ≡ asks (r .change) (r .next) (nrfAfter (r .at)) ⌝ }
 {
     match step {
@@ -540,7 +692,7 @@ fn flash_after(step: FlashStep, chip: Chip, then: Flash, v: u32) -> NrfAsks
 }
 
 // What follows an operation that gave the value `v`.
-fn value_after(p: NrfAt, v: u32) -> NrfAsks
+fn value_after(p: NrfAt, v: u32) -> Asks
     ensures { λ r. ⌜ goesOn p v ≡ asks (r .change) (r .next) (nrfAfter (r .at)) ⌝ }
 {
     match p {
@@ -556,11 +708,11 @@ fn value_after(p: NrfAt, v: u32) -> NrfAsks
 }
 
 // What a call in flight asks for, now that its operation has ended: an error ends the call.
-pub fn call_after(p: NrfAt, o: Outcome) -> NrfAsks
-    ensures { λ r. ⌜ nrfAfter p o ≡ asks (r .change) (r .next) (nrfAfter (r .at)) ⌝ }
+pub fn call_after(at: At, o: Outcome) -> Asks
+    ensures { λ r. ⌜ nrfAfter at o ≡ asks (r .change) (r .next) (nrfAfter (r .at)) ⌝ }
 {
     match o {
-        Outcome::Value(v) => value_after(p, v),
+        Outcome::Value(v) => value_after(unpack(at), v),
         Outcome::Failed(e) => ended(Outcome::Failed(e)),
     }
 }

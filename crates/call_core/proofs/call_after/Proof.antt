@@ -1,4 +1,4 @@
--- The outcome says which half of the table of phases goes on.
+-- A value goes on as the table of phases says, and an error ends the call or the wait.
 use borrow.Author.Needs.{needs}
 use Rattle.call_core.proofs.call_after.Statement.{statement}
 use Rattle.call_core.proofs.call_after.Tie as tie
@@ -6,5 +6,6 @@ use Rattle.call_core.proofs.call_after.Tie as tie
 pub call-after-spec : {M : Type 1} → statement M
 call-after-spec =
     tie.close (tie.spec
-    (λ c. search needs) (λ c κs. search needs) (λ c. search needs) (λ c κs. search needs)
-    (λ c. simp (c .before .before .o .given .1) (c .value-after .ensures)) (λ c. simp (c .before .before .o2 .given .1) (c .failed-after .ensures)))
+    (λ c κs. search needs) (λ c. search needs) (λ c κs. search needs) (λ c. search needs) (λ c κs. search needs)
+    (λ c. simp (c .before .before .o .given .1) (simp (← c .before .before .before .before .unpack .ensures) (c .value-after .ensures)))
+    (λ c. simp (c .before .before .o2 .given .1) (simp (← c .before .before .before .before .unpack .ensures) (c .failed-after .ensures))))

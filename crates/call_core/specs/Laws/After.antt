@@ -1,11 +1,15 @@
 -- What follows each operation of a call: the table of phases. Serves the proofs only.
 use Prim.Native.Nat.{ℕ, _+_, _-_, _*_, _/_, _%_}
 use mathlib.Core.Bool.{Bool, true, false, cond}
+use mathlib.Core.List.{List, [], _∷_}
 use lib.Dec.{eqb}
+use lib.ListN.{getD}
 use Rattle.wire.specs.declared.ArmError.{ArmError}
+use Rattle.wire.specs.declared.ArmError.the-variants as E
 use Rattle.wire.specs.declared.Outcome.{Outcome}
 use Rattle.wire.specs.declared.Outcome.the-variants.{Value, Failed}
 use Rattle.call.specs.Job.{Job, ends, attempt, orFail, _>>=_, _>>_, return, fail, keeping, readWord, writeWord}
+use Rattle.call.specs.declared.At.{At}
 use Rattle.call.specs.declared.Change.the-variants as C
 use Rattle.call_core.specs.Cortex.{DHCSR, DCRDR, DBGKEY, C-DEBUGEN, C-HALT, S-REGRDY, S-HALT, status, stands, R0}
 use Rattle.call_core.specs.Core.{POLLS, waitStatus, readCoreReg, storeCoreReg}
@@ -163,6 +167,61 @@ stopsAt (P.Run step left p) e = fail e
 stopsAt (P.Wait left) e = afterWait (Failed e)
 stopsAt (P.Over unmasked waited) e = fail e
 
-abbrev pub coreAfter : CoreAt → Outcome → Job
-coreAfter p (Value v) = goesOn p v
-coreAfter p (Failed e) = stopsAt p e
+abbrev pub phaseAfter : CoreAt → Outcome → Job
+phaseAfter p (Value v) = goesOn p v
+phaseAfter p (Failed e) = stopsAt p e
+
+-- What the numbers of a call in flight say
+
+abbrev pub accesses : ℕ → List AccessAt
+accesses n =
+    A.Whole ∷ A.Halted ∷ A.Asked W.Halt ∷ A.Asked W.Read ∷ A.Asked W.Write ∷ A.Poll W.Halt n ∷ A.Poll W.Read n ∷ A.Poll W.Write n ∷ []
+
+abbrev pub accessOf : ℕ → ℕ → AccessAt
+accessOf kind n = getD (accesses n) kind (A.Data (n % 256))
+
+abbrev pub finds : List FindStep
+finds = F.Table ∷ F.Entry ∷ F.Low ∷ []
+
+abbrev pub findOf : ℕ → FindStep
+findOf n = getD finds n F.High
+
+abbrev pub runs : List RunStep
+runs = R.Planted ∷ R.Masked ∷ R.Released ∷ []
+
+abbrev pub runOf : ℕ → RunStep
+runOf n = getD runs n R.Look
+
+abbrev pub outcomes : ℕ → List Outcome
+outcomes n =
+    Value n ∷ Failed (E.Transfer (n % 256)) ∷ Failed E.Wait ∷ Failed E.NotSupported ∷ Failed E.PowerUpTimeout ∷ Failed E.CoreTimeout
+    ∷ Failed E.NoTarget ∷ Failed E.Internal ∷ Failed E.Range ∷ Failed E.Align ∷ Failed E.NoSession ∷ []
+
+abbrev pub outcomeOf : ℕ → ℕ → Outcome
+outcomeOf kind n = getD (outcomes n) kind (Failed E.TableEnd)
+
+abbrev pub planOf : At → Plan
+planOf at = record { trampoline = at .c; finish = eqb (at .e % 2) 1; polls = at .d }
+
+abbrev pub thens : At → List Then
+thens at = T.End ∷ T.Save (at .b) (planOf at) ∷ T.Set (at .b) (planOf at) ∷ T.Result ∷ []
+
+abbrev pub thenOf : At → Then
+thenOf at = getD (thens at) (at .step / 8 % 8) (T.Restore (at .b) (at .c))
+
+abbrev pub searchOf : At → Search
+searchOf at = record { want = at .b; table = at .c % 65536; left = at .d % 65536 }
+
+abbrev pub phases : At → List CoreAt
+phases at =
+    P.Access (accessOf (at .e / 2) (at .a)) (thenOf at)
+    ∷ P.Find (findOf (at .e)) (at .a) (searchOf at)
+    ∷ P.Run (runOf (at .e / 2)) (at .a) (planOf at)
+    ∷ P.Wait (at .a)
+    ∷ []
+
+abbrev pub coreAtOf : At → CoreAt
+coreAtOf at = getD (phases at) (at .step % 8) (P.Over (eqb (at .e) 1) (outcomeOf (at .b) (at .a)))
+
+abbrev pub coreAfter : At → Outcome → Job
+coreAfter at o = phaseAfter (coreAtOf at) o

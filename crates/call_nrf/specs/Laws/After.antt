@@ -1,14 +1,17 @@
 -- What follows each operation of a Nordic call. Serves the proofs only: the table of phases, and that it is the calls as written.
-use Prim.Native.Nat.{ℕ, zero, suc, _-_, _%_}
+use Prim.Native.Nat.{ℕ, zero, suc, _-_, _/_, _%_}
 use mathlib.Core.Bool.{Bool, true, cond}
+use mathlib.Core.List.{List, [], _∷_}
 use mathlib.Core.Path.{_≡_, refl, ap}
 use lib.Dec.{eqb}
+use lib.ListN.{getD}
 use Rattle.wire.specs.Laws.Numbers.{less}
 use Rattle.wire.specs.declared.Outcome.{Outcome}
 use Rattle.wire.specs.declared.Outcome.the-variants.{Value, Failed}
 use Rattle.wire_memap.specs.declared.Op.{Op}
 use Rattle.wire_memap.specs.declared.Op.the-variants as O
 use Rattle.call.specs.Job.{Job, op, ends, _>>_, return, fail, just, apWrite, writeWord}
+use Rattle.call.specs.declared.At.{At}
 use Rattle.call_nrf.specs.Nrf52 as nrf52
 use Rattle.call_nrf.specs.Nrf54 as nrf54
 use Rattle.call_nrf.specs.Nrf.{setApsel, answer, readStatus, outcome, softReset, pollErased, waitReady, runs}
@@ -98,9 +101,45 @@ goesOn (A.Release erased) v = released erased
 goesOn (A.Flash step chip then) v = flashAfter step chip then v
 goesOn A.Last v = return 0
 
-abbrev pub nrfAfter : NrfAt → Outcome → Job
-nrfAfter p (Value v) = goesOn p v
-nrfAfter p (Failed e) = fail e
+abbrev pub phaseAfter : NrfAt → Outcome → Job
+phaseAfter p (Value v) = goesOn p v
+phaseAfter p (Failed e) = fail e
+
+-- what the numbers of a call in flight say
+abbrev pub chips : List Chip
+chips = Nrf52 ∷ []
+
+abbrev pub chipOf : ℕ → Chip
+chipOf n = getD chips n Nrf54
+
+abbrev pub steps : ℕ → List FlashStep
+steps count = S.Settle count ∷ S.Wait count ∷ []
+
+abbrev pub stepOf : ℕ → ℕ → FlashStep
+stepOf kind count = getD (steps count) kind S.Next
+
+abbrev pub flashes : ℕ → ℕ → ℕ → ℕ → List Flash
+flashes b c d e = F.Page b e ∷ F.Words (record { stop = b; len = c; left = d; polls = e }) ∷ []
+
+abbrev pub flashOf : ℕ → ℕ → ℕ → ℕ → ℕ → Flash
+flashOf kind b c d e = getD (flashes b c d e) kind F.Close
+
+abbrev pub phases : At → List NrfAt
+phases at =
+    A.Idr
+    ∷ A.Status (eqb (at .a) 1)
+    ∷ A.EraseAll (at .a)
+    ∷ A.Erasing (at .a)
+    ∷ A.Reset (eqb (at .a) 1)
+    ∷ A.Release (eqb (at .a) 1)
+    ∷ A.Flash (stepOf (at .step / 8 % 4) (at .a)) (chipOf (at .step / 64 % 2)) (flashOf (at .step / 256 % 4) (at .b) (at .c) (at .d) (at .e))
+    ∷ []
+
+abbrev pub nrfAtOf : At → NrfAt
+nrfAtOf at = getD (phases at) (at .step % 8) A.Last
+
+abbrev pub nrfAfter : At → Outcome → Job
+nrfAfter at o = phaseAfter (nrfAtOf at) o
 
 pub erased-more : (n : ℕ) → (n ≡ 0 → ⊥) → pollErased n ≡ op (O.ApRead nrf52.CTRLAP-ERASEALLSTATUS) (afterErased (n - 1)) fail
 unfolding pollErased
