@@ -13,7 +13,7 @@ ghost use Rattle.call.specs.Job.{ends, attempt, orFail};
 ghost use Rattle.call.specs.Laws.Asks.{asks, keepSome, nextJob, opThen};
 ghost use Rattle.call_core.specs.Cortex as Cortex;
 ghost use Rattle.call_core.specs.Function.{coreJob, ROM-TABLE-PTRS, joined, lookFrom, clobbered, writeRowReg, finishFunction, afterWait};
-ghost use Rattle.call_core.specs.Laws.After.{bitOf, waiting, polled, accessOn, accessAfter, entryOf, tabled, matching, findOn, ending, looking, looked, setting, saving, beginning, restoring, resulting, runOn, overOn, thenOn, goesOn, stopsAt, phaseAfter, accessOf, findOf, runOf, outcomeOf, planOf, thenOf, coreAtOf, coreAfter};
+ghost use Rattle.call_core.specs.Laws.After.{bitOf, waiting, polled, accessOn, accessAfter, entryOf, tabled, matching, findOn, ending, looking, looked, setting, saving, beginning, restoring, resulting, runOn, overOn, thenOn, goesOn, stopsAt, phaseAfter, accessOf, findOf, runOf, planOf, thenOf, coreAtOf, coreAfter};
 ghost use Rattle.call_core.specs.declared.CoreAt.the-variants.{Access};
 ghost use Rattle.call_core.specs.declared.Wait.the-variants.{Halt};
 use call::Asks;
@@ -408,50 +408,6 @@ fn run_of(n: u32) -> RunStep
     }
 }
 
-// The outcome of the wait for a function's end, in numbers.
-fn outcome_numbers(o: Outcome) -> Numbers
-    ensures { λ r. ⌜ outcomeOf (r .kind) (r .n) ≡ o ⌝ }
-{
-    match o {
-        Outcome::Value(v) => Numbers { kind: 0, n: v },
-        Outcome::Failed(e) => match e {
-            ArmError::Transfer(ack) => Numbers {
-                kind: 1,
-                n: call::wide(ack),
-            },
-            ArmError::Wait => Numbers { kind: 2, n: 0 },
-            ArmError::NotSupported => Numbers { kind: 3, n: 0 },
-            ArmError::PowerUpTimeout => Numbers { kind: 4, n: 0 },
-            ArmError::CoreTimeout => Numbers { kind: 5, n: 0 },
-            ArmError::NoTarget => Numbers { kind: 6, n: 0 },
-            ArmError::Internal => Numbers { kind: 7, n: 0 },
-            ArmError::Range => Numbers { kind: 8, n: 0 },
-            ArmError::Align => Numbers { kind: 9, n: 0 },
-            ArmError::NoSession => Numbers { kind: 10, n: 0 },
-            ArmError::TableEnd => Numbers { kind: 11, n: 0 },
-        },
-    }
-}
-
-fn outcome_of(kind: u32, n: u32) -> Outcome
-    ensures { λ r. ⌜ r ≡ outcomeOf kind n ⌝ }
-{
-    match kind {
-        0 => Outcome::Value(n),
-        1 => Outcome::Failed(ArmError::Transfer((n % 256) as u8)),
-        2 => Outcome::Failed(ArmError::Wait),
-        3 => Outcome::Failed(ArmError::NotSupported),
-        4 => Outcome::Failed(ArmError::PowerUpTimeout),
-        5 => Outcome::Failed(ArmError::CoreTimeout),
-        6 => Outcome::Failed(ArmError::NoTarget),
-        7 => Outcome::Failed(ArmError::Internal),
-        8 => Outcome::Failed(ArmError::Range),
-        9 => Outcome::Failed(ArmError::Align),
-        10 => Outcome::Failed(ArmError::NoSession),
-        _ => Outcome::Failed(ArmError::TableEnd),
-    }
-}
-
 // An access in flight, in numbers: what it is for counts by 8.
 fn pack_access(at: AccessAt, then: Then) -> At
     ensures { λ r. ⌜ coreAtOf r ≡ Access at then ⌝ }
@@ -511,8 +467,15 @@ fn pack(p: CoreAt) -> At
         ),
         CoreAt::Wait(left) => call::at_step(call::CORE + 3, left, 0, 0, 0, 0),
         CoreAt::Over { unmasked, waited } => {
-            let w = outcome_numbers(waited);
-            call::at_step(call::CORE + 4, w.n, w.kind, 0, 0, call::flag(unmasked))
+            let w = wire::outcome_told(waited);
+            call::at_step(
+                call::CORE + 4,
+                w.value,
+                w.number,
+                0,
+                0,
+                call::flag(unmasked),
+            )
         }
     }
 }
@@ -577,7 +540,7 @@ fn unpack(at: At) -> CoreAt
         3 => CoreAt::Wait(at.a),
         _ => CoreAt::Over {
             unmasked: at.e == 1,
-            waited: outcome_of(at.b, at.a),
+            waited: wire::outcome_at(at.b, at.a),
         },
     }
 }

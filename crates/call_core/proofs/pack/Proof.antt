@@ -19,4 +19,4 @@ pack-spec =
     (simp (c .before .before .run-number .ensures .0))))))
     (λ c. simp (c .before .before .p4 .given .1) (simp (c .at-step3 .ensures)))
     (λ c. simp (c .before .before .before .before .p5 .given .1) (ap coreAtOf (c .at-step4 .ensures)
-    ∙ ap₂ Over (c .before .flag .ensures) (c .before .before .outcome-numbers .ensures))))
+    ∙ ap₂ Over (c .before .flag .ensures) (c .before .before .outcome-told .ensures))))

@@ -14,4 +14,4 @@ unpack-spec =
     (λ c. simp (c .before .before .find-of .ensures) (at-row (phases (c .before .before .before .before .before .args .at)) _ (c .before .before .before .match .keys2)))
     (λ c. simp (c .before .run-of .ensures) (simp (c .plan-of .ensures) (at-row (phases (c .before .before .before .before .before .args .at)) _ (c .before .before .before .match .keys3))))
     (λ c. at-row (phases (c .before .before .args .at)) _ (c .match .keys4))
-    (λ c. simp (c .outcome-of .ensures) (past-rows (phases (c .before .before .before .before .args .at)) _ _ (c .before .before .match .rest))))
+    (λ c. simp (c .outcome-at .ensures) (past-rows (phases (c .before .before .before .before .args .at)) _ _ (c .before .before .match .rest))))

@@ -4,8 +4,8 @@ use mathlib.Core.Bool.{Bool, true, false, cond}
 use mathlib.Core.List.{List, [], _∷_}
 use lib.Dec.{eqb}
 use lib.ListN.{getD}
+use Rattle.wire.specs.Laws.Flight.{outcomeOf}
 use Rattle.wire.specs.declared.ArmError.{ArmError}
-use Rattle.wire.specs.declared.ArmError.the-variants as E
 use Rattle.wire.specs.declared.Outcome.{Outcome}
 use Rattle.wire.specs.declared.Outcome.the-variants.{Value, Failed}
 use Rattle.call.specs.Job.{Job, ends, attempt, orFail, _>>=_, _>>_, return, fail, keeping, readWord, writeWord}
@@ -191,14 +191,6 @@ runs = R.Planted ∷ R.Masked ∷ R.Released ∷ []
 
 abbrev pub runOf : ℕ → RunStep
 runOf n = getD runs n R.Look
-
-abbrev pub outcomes : ℕ → List Outcome
-outcomes n =
-    Value n ∷ Failed (E.Transfer (n % 256)) ∷ Failed E.Wait ∷ Failed E.NotSupported ∷ Failed E.PowerUpTimeout ∷ Failed E.CoreTimeout
-    ∷ Failed E.NoTarget ∷ Failed E.Internal ∷ Failed E.Range ∷ Failed E.Align ∷ Failed E.NoSession ∷ []
-
-abbrev pub outcomeOf : ℕ → ℕ → Outcome
-outcomeOf kind n = getD (outcomes n) kind (Failed E.TableEnd)
 
 abbrev pub planOf : At → Plan
 planOf at = record { trampoline = at .c; finish = eqb (at .e % 2) 1; polls = at .d }
