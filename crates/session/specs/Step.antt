@@ -1,6 +1,6 @@
 -- What the session answers to a start and to a step, and how it stands then: for every session, call, answer and buffer.
 use Prim.Native.Nat.{ℕ}
-use mathlib.Core.Bool.{Bool, false, _||_}
+use mathlib.Core.Bool.{Bool, false, _&&_, _||_}
 use mathlib.Core.List.{List, []}
 use mathlib.Core.Path.{_≡_}
 use lib.ListN.{length}
@@ -10,8 +10,9 @@ use Rattle.wire.specs.declared.Answer.{Answer}
 use Rattle.wire_numbers.specs.Results.{endingOf}
 use Rattle.wire_numbers.specs.declared.CallEnding.{CallEnding}
 use Rattle.engine_calls.specs.Calls.{leave}
-use Rattle.engine.specs.Laws.State.{stateTree}
-use Rattle.engine.specs.Step.{nextOf, bytesOf, memoryIn, CountedIn}
+use Rattle.wire_memap.specs.Laws.Doing.{rememberedOf}
+use Rattle.engine.specs.Laws.State.{statusOf, stateTree}
+use Rattle.engine.specs.Step.{nextOf, bytesOf, memoryIn, awaited, CountedIn}
 use Rattle.engine.specs.declared.NextStep.the-variants as N
 use Rattle.session_rules.specs.Admits.{refusal, refusalNumber}
 use Rattle.session_phase.specs.Phase.{loss, isOpen, phaseEnded}
@@ -29,7 +30,7 @@ use Rattle.session.specs.declared.Reply.{Reply}
 
 -- the session as it stands between calls; one whose call is still under way is closed
 abbrev pub standing : Session → Standing
-standing s = record { isOpen = isOpen (s .phase); remembered = s .state .remembered; frame = s .frame }
+standing s = record { isOpen = isOpen (s .phase); remembered = rememberedOf (s .state .op); frame = s .frame }
 
 abbrev pub phaseIn : Kind → Bool → Wire → Phase
 phaseIn kind lost (done m o) = phaseEnded kind lost (succeeds (ended o))
@@ -46,10 +47,10 @@ pub record Answers (kind : Kind) (lost : Bool) (before : List ℕ) (w : Wire) (s
   pub next : r .next ≡ nextOf w
   pub bytes : r .bytes ≡ padded (bytesOf w)
   pub phase : s .phase ≡ phaseIn kind lost w
-  pub memory : memoryOf (s .state .remembered) (s .row) buf ≡ memoryIn w
+  pub memory : memoryOf (rememberedOf (s .state .op)) (s .row) buf ≡ memoryIn w
   pub frame : s .frame ≡ frameIn kind w before
   pub tree : w ≡ stateTree (s .state) (s .row) buf
-  pub counted : CountedIn (s .state .status) (s .state .started .launched .transfer)
+  pub counted : CountedIn (statusOf (s .state .call)) (s .state .transfer)
 
 -- a result as 01's number and value
 abbrev pub reported : Result → CallEnding
@@ -73,9 +74,7 @@ Started before c buf₀ s r buf = StartedBy (refusal (isOpen (before .phase)) c 
 
 -- whether an answer shows that the transport call due was lost; that of an ignored ABORT shows nothing
 abbrev pub lostBy : Wire → Answer → Bool
-lostBy (done m o) a = false
-lostBy (ask m c f) a = loss a
-lostBy (tell m c w) a = false
+lostBy w a = awaited w && loss a
 
 -- what a step answers; where no call is under way it is refused as NoSession
 abbrev pub SteppedIn : Phase → Session → Answer → List ℕ → Session → Reply → List ℕ → Type 0

@@ -12,12 +12,9 @@ ghost use Rattle.session_rules.specs.Session.{closed, kindOf, frameBy, sessionT
 ghost use Rattle.session_phase.specs.declared.Phase.the-variants.{Closed};
 ghost use Rattle.session.specs.Step.{standing, lostBy, Answers, Refused, Started, Stepped};
 ghost use Rattle.session.specs.Laws.Ends.{phaseFor, frameAt};
-use call_connect::ConnectAt;
 use engine::NextStep;
 use engine::State;
-use engine::Status;
 use engine::StepAnswer;
-use engine_calls::At;
 use engine_calls::EngineCall;
 use engine_calls::Frame;
 use session_phase::Kind;
@@ -26,8 +23,6 @@ use session_rules::Check;
 use session_rules::Refusal;
 use session_rules::SessionCall;
 use wire::Answer;
-use wire::Outcome;
-use wire_memap::Op;
 use wire_numbers::CallEnding;
 
 // `state` has what is remembered and the call in flight, `row` the words of its runs, `frame` what call 23 left and 24 takes.
@@ -62,13 +57,8 @@ fn row_of(c: EngineCall, frame: [u32; 8]) -> [u32; 64]
 fn lost_by(lost: bool, s: State, a: Answer) -> bool
     ensures { λ r. ⌜ ((ws b : List ℕ) → r ≡ (lost || lostBy (stateTree s ws b) a)) ⌝ }
 {
-    let status = s.status;
-    let t = s.started.launched.transfer;
-    let mode = t.mode;
-    match status {
-        Status::Running => session_phase::has_lost(lost, mode, a),
-        Status::Ended(_) => lost,
-    }
+    let awaited = engine::awaits(s);
+    session_phase::has_lost(lost, awaited, a)
 }
 
 // Call 23 leaves its frame where it succeeds.
@@ -151,7 +141,7 @@ fn begun(s: Session, c: SessionCall, buf: &mut [u8]) -> SessionAnswer
 {
     let frame = s.frame;
     let e = session_rules::engine_call(c);
-    let r = session_phase::remembered_for(session_rules::is_connect(c), s.state.remembered);
+    let r = session_phase::remembered_for(session_rules::is_connect(c), engine::remembered(s.state));
     let mut row = row_of(e, frame);
     let mut none = [0u32; 0];
     let x = engine::start(r, e, &mut row, &mut none, buf);
@@ -159,29 +149,12 @@ fn begun(s: Session, c: SessionCall, buf: &mut [u8]) -> SessionAnswer
     settled(kind, false, frame, row, x)
 }
 
-// A session's call runs over the row.
-fn over_row(s: State) -> State
-    ensures { λ r. ⌜ ((ws b : List ℕ) → stateTree r ws b ≡ stateTree s ws b) × (r .own ≡ false) ⌝ }
-{
-    let status = s.status;
-    let at = s.at;
-    let started = s.started;
-    let r = s.remembered;
-    State {
-        remembered: r,
-        status: status,
-        at: at,
-        started: started,
-        own: false,
-    }
-}
-
 // The engine's step over the row; no words of the caller are lent.
 fn step_row(state: State, a: Answer, row: &mut [u32; 64], buf: &mut [u8]) -> StepAnswer
     ensures { λ x. ⌜ Steps (follow (stateTree state (now (row .entry)) (now (buf .entry))) a) x (now (row .exit)) (now (buf .exit)) ⌝ }
 {
     let mut none = [0u32; 0];
-    engine::step(over_row(state), a, row, &mut none, buf)
+    engine::step(engine::over_row(state), a, row, &mut none, buf)
 }
 
 // One step of the call under way.
@@ -200,15 +173,7 @@ fn moved(s: Session, kind: Kind, lost: bool, a: Answer, buf: &mut [u8]) -> Sessi
 pub fn fresh() -> Session
     ensures { λ r. ⌜ (standing r ≡ closed) × (r .phase ≡ Closed) × (r .row ≡ replicate 64 0) ⌝ }
 {
-    let r = engine::new();
-    let started = wire_memap::op_start(r, Op::DpRead { addr: 0 });
-    let state = State {
-        remembered: r,
-        status: Status::Ended(Outcome::Value(0)),
-        at: At::Connect(ConnectAt::Pulse),
-        started: started,
-        own: false,
-    };
+    let state = engine::idle(engine::new());
     Session {
         phase: Phase::Closed,
         state: state,

@@ -5,8 +5,6 @@ use lib.Dec.{eqb}
 use Rattle.wire.specs.Wire.{Ending, ended, spent}
 use Rattle.wire.specs.declared.Answer.{Answer}
 use Rattle.wire.specs.declared.Answer.the-variants.{Good, SwdError, NotSupported, Other}
-use Rattle.wire.specs.declared.Mode.{Mode}
-use Rattle.wire.specs.declared.Mode.the-variants as D
 use Rattle.wire.specs.declared.Remembered.{Remembered}
 use Rattle.call.specs.Change.{forgotten}
 use Rattle.session_phase.specs.declared.Kind.{Kind}
@@ -20,12 +18,6 @@ loss (Good v) = false
 loss (SwdError ack) = not (eqb ack 2 || eqb ack 4)
 loss NotSupported = true
 loss Other = true
-
--- a loss by what is in flight: the answer of an ABORT is ignored
-abbrev pub lossIn : Mode → Answer → Bool
-lossIn D.Trying a = loss a
-lossIn D.Aborting a = false
-lossIn D.Raw a = loss a
 
 -- each connect starts with SELECT and CSW unknown
 abbrev pub rememberedFor : Bool → Remembered → Remembered

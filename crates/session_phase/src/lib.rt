@@ -1,9 +1,8 @@
 // When a session is open: it closes by a loss, by a call that is never brought to its end, and by a connect that failed.
-ghost use mathlib.Core.Bool.{_||_};
+ghost use mathlib.Core.Bool.{_&&_, _||_};
 ghost use mathlib.Core.Path.{_≡_};
-ghost use Rattle.session_phase.specs.Phase.{loss, lossIn, rememberedFor, isOpen, phaseEnded};
+ghost use Rattle.session_phase.specs.Phase.{loss, rememberedFor, isOpen, phaseEnded};
 use wire::Answer;
-use wire::Mode;
 use wire::Remembered;
 
 // What the running call's end needs to know of it: a connect decides alone whether the session is open; call 23 leaves a frame.
@@ -63,25 +62,19 @@ pub fn is_loss(a: Answer) -> bool
     }
 }
 
-// The answer of an ABORT is ignored: a loss of it is none.
-fn loss_in(mode: Mode, a: Answer) -> bool
-    ensures { λ r. ⌜ r ≡ lossIn mode a ⌝ }
-{
-    match mode {
-        Mode::Trying => is_loss(a),
-        Mode::Aborting => false,
-        Mode::Raw => is_loss(a),
-    }
-}
-
-// A loss is remembered until the call's end.
-pub fn has_lost(lost: bool, mode: Mode, a: Answer) -> bool
-    ensures { λ r. ⌜ r ≡ (lost || lossIn mode a) ⌝ }
+// A loss is remembered until the call's end. `awaited`: the answer is not that of an ABORT.
+pub fn has_lost(lost: bool, awaited: bool, a: Answer) -> bool
+    ensures { λ r. ⌜ r ≡ (lost || (awaited && loss a)) ⌝ }
 {
     if lost {
         return true;
     }
-    loss_in(mode, a)
+    if awaited {
+        return is_loss(a);
+    }
+    // the answer of an ABORT is ignored
+    let lost_abort = false;
+    lost_abort
 }
 
 // A session is open after a call without a loss; after a connect only if it succeeded.

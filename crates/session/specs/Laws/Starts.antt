@@ -8,7 +8,7 @@ use Rattle.wire.specs.Wire.{Wire, follow}
 use Rattle.wire.specs.declared.Answer.{Answer}
 use Rattle.wire.specs.declared.Remembered.{Remembered}
 use Rattle.engine_calls.specs.Calls.{lent, callTree, rowFor}
-use Rattle.engine.specs.Laws.State.{stateTree}
+use Rattle.engine.specs.Laws.State.{ownOf, stateTree}
 use Rattle.engine.specs.Step.{Steps, Lent, Stepped}
 use Rattle.engine.specs.declared.State.{State}
 use Rattle.engine_calls.specs.declared.EngineCall.{EngineCall}
@@ -47,7 +47,7 @@ starts c e connect r₀ r frame row₀ none₀ buf₀ x row none buf he hc hr hw
 
 -- a step over the row; r is the state s as one that runs over it
 pub steps-row : (s r : State) (a : Answer) (x : StepAnswer) (row₀ none₀ buf₀ row none buf : List ℕ)
-    → ((ws b : List ℕ) → stateTree r ws b ≡ stateTree s ws b) × (r .own ≡ false) → Stepped r a x row₀ none₀ buf₀ row none buf
+    → ((ws b : List ℕ) → stateTree r ws b ≡ stateTree s ws b) × (ownOf (r .call) ≡ false) → Stepped r a x row₀ none₀ buf₀ row none buf
     → Steps (follow (stateTree s row₀ buf₀) a) x row buf
 steps-row s r a x row₀ none₀ buf₀ row none buf h g =
     subst (λ (w : Wire). Steps (follow w a) x row buf) (h .0 row₀ buf₀)
