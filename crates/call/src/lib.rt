@@ -71,6 +71,7 @@ pub enum Next {
 }
 
 // Which operation of a call is in flight: a number for group and phase, and what it goes on with. 0: its outcome is the call's.
+// A group of calls gives the phase alone, below 1024, and looks at nothing above it; who calls the groups puts the group there.
 pub struct At {
     pub step: u32,
     pub a: u32,
@@ -86,15 +87,6 @@ pub struct Asks {
     pub at: At,
     pub next: Next,
 }
-
-// Each group of calls has its range of `step`, from these numbers on; calls 6 to 14 have those from 0 on.
-pub const CONNECT: u32 = 32;
-
-pub const CORE: u32 = 64;
-
-pub const FPB: u32 = 128;
-
-pub const NRF: u32 = 160;
 
 // The phase `step`, and what it goes on with.
 pub fn at_step(step: u32, a: u32, b: u32, c: u32, d: u32, e: u32) -> At

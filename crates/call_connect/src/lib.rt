@@ -165,13 +165,13 @@ fn pack(p: ConnectAt) -> At
             how,
             left,
             targetsel,
-        } => call::at_step(call::CONNECT, how_number(how), left, targetsel, 0, 0),
-        ConnectAt::Dpidr(how) => call::at_step(call::CONNECT + 1, how_number(how), 0, 0, 0, 0),
-        ConnectAt::Abort(dpidr) => call::at_step(call::CONNECT + 2, dpidr, 0, 0, 0, 0),
-        ConnectAt::Select(dpidr) => call::at_step(call::CONNECT + 3, dpidr, 0, 0, 0, 0),
-        ConnectAt::Power(dpidr) => call::at_step(call::CONNECT + 4, dpidr, 0, 0, 0, 0),
-        ConnectAt::Poll { dpidr, left } => call::at_step(call::CONNECT + 5, dpidr, left, 0, 0, 0),
-        ConnectAt::Pulse => call::at_step(call::CONNECT + 6, 0, 0, 0, 0, 0),
+        } => call::at_step(0, how_number(how), left, targetsel, 0, 0),
+        ConnectAt::Dpidr(how) => call::at_step(1, how_number(how), 0, 0, 0, 0),
+        ConnectAt::Abort(dpidr) => call::at_step(2, dpidr, 0, 0, 0, 0),
+        ConnectAt::Select(dpidr) => call::at_step(3, dpidr, 0, 0, 0, 0),
+        ConnectAt::Power(dpidr) => call::at_step(4, dpidr, 0, 0, 0, 0),
+        ConnectAt::Poll { dpidr, left } => call::at_step(5, dpidr, left, 0, 0, 0),
+        ConnectAt::Pulse => call::at_step(6, 0, 0, 0, 0, 0),
     }
 }
 

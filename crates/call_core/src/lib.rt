@@ -414,9 +414,9 @@ fn pack_access(at: AccessAt, then: Then) -> At
 {
     let x = access_numbers(at);
     match then {
-        Then::End => call::at_step(call::CORE, x.n, 0, 0, 0, with_flag(x.kind, false)),
+        Then::End => call::at_step(0, x.n, 0, 0, 0, with_flag(x.kind, false)),
         Then::Save { left, plan } => call::at_step(
-            call::CORE + 8,
+            8,
             x.n,
             left,
             plan.trampoline,
@@ -424,16 +424,16 @@ fn pack_access(at: AccessAt, then: Then) -> At
             with_flag(x.kind, plan.finish),
         ),
         Then::Set { left, plan } => call::at_step(
-            call::CORE + 16,
+            16,
             x.n,
             left,
             plan.trampoline,
             plan.polls,
             with_flag(x.kind, plan.finish),
         ),
-        Then::Result => call::at_step(call::CORE + 24, x.n, 0, 0, 0, with_flag(x.kind, false)),
+        Then::Result => call::at_step(24, x.n, 0, 0, 0, with_flag(x.kind, false)),
         Then::Restore { left, value } => call::at_step(
-            call::CORE + 32,
+            32,
             x.n,
             left,
             value,
@@ -450,7 +450,7 @@ fn pack(p: CoreAt) -> At
     match p {
         CoreAt::Access { at, then } => pack_access(at, then),
         CoreAt::Find { step, low, search } => call::at_step(
-            call::CORE + 1,
+            1,
             low,
             search.want,
             wide_half(search.table),
@@ -458,24 +458,17 @@ fn pack(p: CoreAt) -> At
             find_number(step),
         ),
         CoreAt::Run { step, left, plan } => call::at_step(
-            call::CORE + 2,
+            2,
             left,
             0,
             plan.trampoline,
             plan.polls,
             with_flag(run_number(step), plan.finish),
         ),
-        CoreAt::Wait(left) => call::at_step(call::CORE + 3, left, 0, 0, 0, 0),
+        CoreAt::Wait(left) => call::at_step(3, left, 0, 0, 0, 0),
         CoreAt::Over { unmasked, waited } => {
             let w = wire::outcome_told(waited);
-            call::at_step(
-                call::CORE + 4,
-                w.value,
-                w.number,
-                0,
-                0,
-                call::flag(unmasked),
-            )
+            call::at_step(4, w.value, w.number, 0, 0, call::flag(unmasked))
         }
     }
 }

@@ -113,8 +113,8 @@ fn pack_seek(value: u32, n: u8, left: u8, free: Free) -> At
     let n = call::wide(n);
     let left = call::wide(left);
     match free {
-        Free::Nowhere => call::at_step(call::FPB + 2, value, n, left, 0, 0),
-        Free::At(i) => call::at_step(call::FPB + 3, value, n, left, call::wide(i), 0),
+        Free::Nowhere => call::at_step(2, value, n, left, 0, 0),
+        Free::At(i) => call::at_step(3, value, n, left, call::wide(i), 0),
     }
 }
 
@@ -123,44 +123,30 @@ fn pack(p: FpbAt) -> At
     ensures { λ r. ⌜ fpbAtOf r ≡ p ⌝ }
 {
     match p {
-        FpbAt::SetCtrl(addr) => call::at_step(call::FPB, addr, 0, 0, 0, 0),
-        FpbAt::Enable { value, n } => call::at_step(call::FPB + 1, value, call::wide(n), 0, 0, 0),
+        FpbAt::SetCtrl(addr) => call::at_step(0, addr, 0, 0, 0, 0),
+        FpbAt::Enable { value, n } => call::at_step(1, value, call::wide(n), 0, 0, 0),
         FpbAt::Seek {
             value,
             n,
             left,
             free,
         } => pack_seek(value, n, left, free),
-        FpbAt::Revision { clears, addr } => call::at_step(
-            call::FPB + 4,
-            addr,
-            0,
-            0,
-            call::flag(clears),
-            0,
-        ),
-        FpbAt::Count { clears, value } => call::at_step(
-            call::FPB + 5,
-            value,
-            0,
-            0,
-            call::flag(clears),
-            0,
-        ),
+        FpbAt::Revision { clears, addr } => call::at_step(4, addr, 0, 0, call::flag(clears), 0),
+        FpbAt::Count { clears, value } => call::at_step(5, value, 0, 0, call::flag(clears), 0),
         FpbAt::Find {
             clears,
             value,
             n,
             left,
         } => call::at_step(
-            call::FPB + 6,
+            6,
             value,
             call::wide(n),
             call::wide(left),
             call::flag(clears),
             0,
         ),
-        FpbAt::Write => call::at_step(call::FPB + 7, 0, 0, 0, 0, 0),
+        FpbAt::Write => call::at_step(7, 0, 0, 0, 0, 0),
     }
 }
 

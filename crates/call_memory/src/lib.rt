@@ -5,7 +5,7 @@
 // Calls 6 to 14: raw registers of an access port, words and memory. Each function says what a call asks for next.
 ghost use mathlib.Core.Bool.{true};
 ghost use mathlib.Core.Path.{_≡_};
-ghost use Prim.Native.Nat.{_-_, _*_, min};
+ghost use Prim.Native.Nat.{_-_, _*_, _%_, min};
 ghost use lib.Dec.{leb};
 ghost use Rattle.call.specs.Job.{ends, just};
 ghost use Rattle.call.specs.Laws.Asks.{asks, keepSome, opThen};
@@ -93,7 +93,7 @@ fn run_words(addr: u32, words: u32) -> u32
 
 // A turn's step as a number from 1 on.
 fn step_number(step: TurnStep) -> u32
-    ensures { λ r. ⌜ ((m : Mem) → turnOf r m ≡ Turn step m) ⌝ }
+    ensures { λ r. ⌜ ((m : Mem) → turnOf (r % 32) m ≡ Turn step m) ⌝ }
 {
     match step {
         TurnStep::ReadRun => 1,
@@ -121,7 +121,7 @@ fn unpack(at: At) -> MemoryAt
         left: at.c,
         size: at.d,
     };
-    let n = at.step;
+    let n = at.step % 32;
     match n {
         0 => MemoryAt::Whole,
         1 => MemoryAt::Turn {

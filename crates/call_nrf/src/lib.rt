@@ -209,7 +209,7 @@ fn flash_number(step: u32, chip: u32, then: u32) -> u32
     requires { ⌜ (step < 4) × (chip < 2) × (then < 4) ⌝ }
     ensures { λ r. ⌜ (r % 8 ≡ 6) × (r / 8 % 4 ≡ step) × (r / 64 % 2 ≡ chip) × (r / 256 % 4 ≡ then) ⌝ }
 {
-    call::NRF + 6 + 8 * step + 64 * chip + 256 * then
+    6 + 8 * step + 64 * chip + 256 * then
 }
 
 fn pack_flash(step: FlashStep, chip: Chip, then: Flash) -> At
@@ -226,14 +226,14 @@ fn pack(p: NrfAt) -> At
     ensures { λ r. ⌜ nrfAtOf r ≡ p ⌝ }
 {
     match p {
-        NrfAt::Idr => call::at_step(call::NRF, 0, 0, 0, 0, 0),
-        NrfAt::Status(known) => call::at_step(call::NRF + 1, call::flag(known), 0, 0, 0, 0),
-        NrfAt::EraseAll(polls) => call::at_step(call::NRF + 2, polls, 0, 0, 0, 0),
-        NrfAt::Erasing(left) => call::at_step(call::NRF + 3, left, 0, 0, 0, 0),
-        NrfAt::Reset(erased) => call::at_step(call::NRF + 4, call::flag(erased), 0, 0, 0, 0),
-        NrfAt::Release(erased) => call::at_step(call::NRF + 5, call::flag(erased), 0, 0, 0, 0),
+        NrfAt::Idr => call::at_step(0, 0, 0, 0, 0, 0),
+        NrfAt::Status(known) => call::at_step(1, call::flag(known), 0, 0, 0, 0),
+        NrfAt::EraseAll(polls) => call::at_step(2, polls, 0, 0, 0, 0),
+        NrfAt::Erasing(left) => call::at_step(3, left, 0, 0, 0, 0),
+        NrfAt::Reset(erased) => call::at_step(4, call::flag(erased), 0, 0, 0, 0),
+        NrfAt::Release(erased) => call::at_step(5, call::flag(erased), 0, 0, 0, 0),
         NrfAt::Flash { step, chip, then } => pack_flash(step, chip, then),
-        NrfAt::Last => call::at_step(call::NRF + 7, 0, 0, 0, 0, 0),
+        NrfAt::Last => call::at_step(7, 0, 0, 0, 0, 0),
     }
 }
 

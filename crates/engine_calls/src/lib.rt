@@ -2,32 +2,19 @@
 // and where its frame is.
 ghost use mathlib.Core.Bool.{cond};
 ghost use mathlib.Core.Path.{_≡_};
+ghost use Prim.Native.Nat.{_<_};
 ghost use lib.ListN.{replicate};
 ghost use lib.Seq.{sets};
-ghost use Rattle.call.specs.Laws.Asks.{asks};
-ghost use Rattle.call_connect.specs.Laws.After.{connectAfter};
-ghost use Rattle.call_memory.specs.Laws.After.{memoryAfter};
-ghost use Rattle.call_core.specs.Laws.After.{coreAfter};
-ghost use Rattle.call_fpb.specs.Laws.After.{fpbAfter};
-ghost use Rattle.call_nrf.specs.Laws.After.{nrfAfter};
 ghost use Rattle.engine_calls.specs.Calls.{jobOf, lentWords, lentFlash, lent, frameOf, coreFrame, frameFor, rowWith, leave};
-ghost use Rattle.engine_calls.specs.Laws.After.{callAfter, asksJob};
+ghost use Rattle.engine_calls.specs.Laws.After.{callAfter, asksJob, inGroup};
+use call::Asks;
+use call::At;
 use call::Change;
 use call::Next;
-use call_connect::ConnectAsks;
-use call_connect::ConnectAt;
 use call_connect::ConnectCall;
-use call_core::CoreAsks;
-use call_core::CoreAt;
 use call_core::CoreCall;
-use call_fpb::FpbAsks;
-use call_fpb::FpbAt;
 use call_fpb::FpbCall;
-use call_memory::MemoryAsks;
-use call_memory::MemoryAt;
 use call_memory::MemoryCall;
-use call_nrf::NrfAsks;
-use call_nrf::NrfAt;
 use call_nrf::NrfCall;
 use wire::Outcome;
 
@@ -40,20 +27,16 @@ pub enum EngineCall {
     Nrf(NrfCall),
 }
 
-// Which operation of a call is in flight.
-pub enum At {
-    Connect(ConnectAt),
-    Memory(MemoryAt),
-    Core(CoreAt),
-    Fpb(FpbAt),
-    Nrf(NrfAt),
-}
+// The groups of calls. `step` of a call in flight has the group by 1024, and below it what the group's own functions gave.
+const MEMORY: u32 = 0;
 
-pub struct Asks {
-    pub change: Change,
-    pub at: At,
-    pub next: Next,
-}
+const CONNECT: u32 = 1;
+
+const CORE: u32 = 2;
+
+const FPB: u32 = 3;
+
+const NRF: u32 = 4;
 
 // What a call does with the eight words that the caller lends for a frame: call 24 finds its frame there, call 23 leaves it there.
 pub enum Frame {
@@ -62,82 +45,40 @@ pub enum Frame {
     Left,
 }
 
-// What a group asks for is what the call asks for.
-fn connect_asks(a: ConnectAsks) -> Asks
-    ensures { λ r. ⌜ asks (a .change) (a .next) (connectAfter (a .at)) ≡ asksJob r ⌝ }
+// What a group asks for, with the group in its numbers.
+fn grouped(group: u32, q: Asks) -> Asks
+    requires { ⌜ group < 8 ⌝ }
+    ensures { λ r. ⌜ (r .change ≡ q .change) × (r .next ≡ q .next) × (r .at ≡ inGroup group (q .at)) ⌝ }
 {
-    let change = a.change;
-    let at = a.at;
-    let next = a.next;
+    let change = q.change;
+    let at = q.at;
+    let next = q.next;
     Asks {
         change: change,
-        at: At::Connect(at),
+        at: call::at_step(1024 * group + at.step % 1024, at.a, at.b, at.c, at.d, at.e),
         next: next,
     }
 }
 
-fn memory_asks(a: MemoryAsks) -> Asks
-    ensures { λ r. ⌜ asks (a .change) (a .next) (memoryAfter (a .at)) ≡ asksJob r ⌝ }
+// What a call does with the outcome of its operation. At step 0 it is the call's.
+pub fn call_after(at: At, o: Outcome) -> Asks
+    ensures { λ r. ⌜ callAfter at o ≡ asksJob r ⌝ }
 {
-    let change = a.change;
-    let at = a.at;
-    let next = a.next;
-    Asks {
-        change: change,
-        at: At::Memory(at),
-        next: next,
+    let step = at.step;
+    if step == 0 {
+        return Asks {
+            change: Change::Nothing,
+            at: at,
+            next: Next::End(o),
+        };
     }
-}
-
-fn core_asks(a: CoreAsks) -> Asks
-    ensures { λ r. ⌜ asks (a .change) (a .next) (coreAfter (a .at)) ≡ asksJob r ⌝ }
-{
-    let change = a.change;
-    let at = a.at;
-    let next = a.next;
-    Asks {
-        change: change,
-        at: At::Core(at),
-        next: next,
-    }
-}
-
-fn fpb_asks(a: FpbAsks) -> Asks
-    ensures { λ r. ⌜ asks (a .change) (a .next) (fpbAfter (a .at)) ≡ asksJob r ⌝ }
-{
-    let change = a.change;
-    let at = a.at;
-    let next = a.next;
-    Asks {
-        change: change,
-        at: At::Fpb(at),
-        next: next,
-    }
-}
-
-fn nrf_asks(a: NrfAsks) -> Asks
-    ensures { λ r. ⌜ asks (a .change) (a .next) (nrfAfter (a .at)) ≡ asksJob r ⌝ }
-{
-    let change = a.change;
-    let at = a.at;
-    let next = a.next;
-    Asks {
-        change: change,
-        at: At::Nrf(at),
-        next: next,
-    }
-}
-
-// What a call does with the outcome of its operation.
-pub fn call_after(p: At, o: Outcome) -> Asks
-    ensures { λ r. ⌜ callAfter p o ≡ asksJob r ⌝ }
-{
-    match p {
-        At::Connect(q) => connect_asks(call_connect::call_after(q, o)),
-        At::Memory(q) => memory_asks(call_memory::call_after(q, o)),
-        At::Core(q) => core_asks(call_core::call_after(q, o)),
-        At::Fpb(q) => fpb_asks(call_fpb::call_after(q, o)),
-        At::Nrf(q) => nrf_asks(call_nrf::call_after(q, o)),
+    let group = step / 1024;
+    match group {
+        MEMORY => grouped(MEMORY, call_memory::call_after(at, o)),
+        CONNECT => grouped(CONNECT, call_connect::call_after(at, o)),
+        CORE => grouped(CORE, call_core::call_after(at, o)),
+        FPB => grouped(FPB, call_fpb::call_after(at, o)),
+        _ => grouped(NRF, call_nrf::call_after(at, o)),
     }
 }
 
@@ -146,11 +87,11 @@ pub fn call_start(c: EngineCall, words: usize, bytes: usize) -> Asks
     ensures { λ r. ⌜ jobOf c words bytes ≡ asksJob r ⌝ }
 {
     match c {
-        EngineCall::Connect(q) => connect_asks(call_connect::start(q)),
-        EngineCall::Memory(q) => memory_asks(call_memory::start(q, words, bytes)),
-        EngineCall::Core(q) => core_asks(call_core::start(q)),
-        EngineCall::Fpb(q) => fpb_asks(call_fpb::start(q)),
-        EngineCall::Nrf(q) => nrf_asks(call_nrf::start(q, words)),
+        EngineCall::Connect(q) => grouped(CONNECT, call_connect::start(q)),
+        EngineCall::Memory(q) => grouped(MEMORY, call_memory::start(q, words, bytes)),
+        EngineCall::Core(q) => grouped(CORE, call_core::start(q)),
+        EngineCall::Fpb(q) => grouped(FPB, call_fpb::start(q)),
+        EngineCall::Nrf(q) => grouped(NRF, call_nrf::start(q, words)),
     }
 }
 

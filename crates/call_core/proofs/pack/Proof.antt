@@ -9,10 +9,10 @@ use Rattle.call_core.proofs.pack.Tie as tie
 pub pack-spec : {M : Type 1} → statement M
 pack-spec =
     tie.close (tie.spec
-    (λ c. search needs) (λ c κs. search needs) (λ c. search needs) (λ c. search needs) (λ c κs. search needs) (λ c κs. search needs)
-    (λ c κs. search needs) (λ c κs. search needs) (λ c. search needs) (λ c. search needs) (λ c κs. search needs) (λ c κs. search needs)
-    (λ c κs. search needs) (λ c. search needs) (λ c. search needs) (λ c κs. search needs) (λ c. search needs) (λ c κs. search needs)
-    (λ c. search needs) (λ c κs. search needs) (λ c κs. search needs) (λ c. simp (c .before .before .p .given .1) (c .pack-access .ensures))
+    (λ c. search needs) (λ c κs. search needs) (λ c. search needs) (λ c κs. search needs) (λ c κs. search needs) (λ c κs. search needs)
+    (λ c κs. search needs) (λ c. search needs) (λ c κs. search needs) (λ c κs. search needs) (λ c κs. search needs) (λ c. search needs)
+    (λ c κs. search needs) (λ c. search needs) (λ c κs. search needs) (λ c κs. search needs) (λ c κs. search needs)
+    (λ c. simp (c .before .before .p .given .1) (c .pack-access .ensures))
     (λ c. simp (c .before .before .before .before .before .p2 .given .1) (simp (c .at-step .ensures) (simp (c .before .before .before .wide-half .ensures) (simp (c .before .before .wide-half2 .ensures)
     (simp (c .before .find-number .ensures))))))
     (λ c. simp (c .before .before .before .before .p3 .given .1) (simp (c .at-step2 .ensures) (simp (c .before .with-flag .ensures .0) (simp (c .before .with-flag .ensures .1)

@@ -6,10 +6,9 @@ use Rattle.call_core.proofs.pack_access.Tie as tie
 pub pack-access-spec : {M : Type 1} → statement M
 pack-access-spec =
     tie.close (tie.spec
-    (λ c κs. search needs) (λ c. search needs) (λ c κs. search needs) (λ c κs. search needs) (λ c. search needs) (λ c. search needs)
-    (λ c κs. search needs) (λ c κs. search needs) (λ c. search needs) (λ c. search needs) (λ c κs. search needs) (λ c κs. search needs)
-    (λ c. search needs) (λ c. search needs) (λ c κs. search needs) (λ c κs. search needs) (λ c. search needs) (λ c. search needs)
-    (λ c κs. search needs) (λ c κs. search needs)
+    (λ c κs. search needs) (λ c. search needs) (λ c κs. search needs) (λ c κs. search needs) (λ c. search needs) (λ c κs. search needs)
+    (λ c κs. search needs) (λ c. search needs) (λ c κs. search needs) (λ c κs. search needs) (λ c. search needs) (λ c κs. search needs)
+    (λ c κs. search needs) (λ c. search needs) (λ c κs. search needs) (λ c κs. search needs)
     (λ c. simp (c .before .before .enum-told .given .1) (simp (c .at-step .ensures) (simp (c .before .with-flag .ensures .0)
     (simp (c .before .before .before .before .access-numbers .ensures .0)))))
     (λ c. simp (c .before .before .before .then .given .1) (simp (c .at-step2 .ensures) (simp (c .before .with-flag2 .ensures .0)

@@ -51,7 +51,7 @@ abbrev pub turnOf : ℕ → Mem → MemoryAt
 turnOf n m = getD (phases m) n (A.Turn T.PartWritten m)
 
 abbrev pub memoryAtOf : At → MemoryAt
-memoryAtOf at = turnOf (at .step) (memOf at)
+memoryAtOf at = turnOf (at .step % 32) (memOf at)
 
 abbrev pub memoryAfter : At → Outcome → Job
 memoryAfter at o = phaseAfter (memoryAtOf at) o
