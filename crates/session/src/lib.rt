@@ -141,7 +141,10 @@ fn begun(s: Session, c: SessionCall, buf: &mut [u8]) -> SessionAnswer
 {
     let frame = s.frame;
     let e = session_rules::engine_call(c);
-    let r = session_phase::remembered_for(session_rules::is_connect(c), engine::remembered(s.state));
+    let r = session_phase::remembered_for(
+        session_rules::is_connect(c),
+        engine::remembered(s.state),
+    );
     let mut row = row_of(e, frame);
     let mut none = [0u32; 0];
     let x = engine::start(r, e, &mut row, &mut none, buf);

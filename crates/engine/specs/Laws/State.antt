@@ -4,11 +4,13 @@
 use Prim.Native.Nat.{ℕ}
 use mathlib.Core.Bool.{Bool, true, false}
 use mathlib.Core.List.{List, [], _∷_}
-use mathlib.Core.Path.{_≡_, subst}
+use mathlib.Core.Path.{_≡_, refl, sym, subst, _∙_}
 use lib.Dec.{eqb}
 use lib.ListN.{length, getD}
-use Rattle.wire.specs.Wire.{Wire, Memory, done}
-use Rattle.wire.specs.Laws.Flight.{outcomeOf}
+use Rattle.wire.specs.Wire.{Wire, Memory, done, ask, tell}
+use Rattle.wire.specs.Laws.Flight.{outcomeOf, Mode, Transfer, transferOf, flight}
+use Rattle.wire.specs.Laws.Flight as D
+use Rattle.wire.specs.declared.Call.{Call}
 use Rattle.wire.specs.Laws.Rows.{spelled}
 use Rattle.wire.specs.declared.Outcome.{Outcome}
 use Rattle.wire_memap.specs.Laws.Doing.{stands}
@@ -63,3 +65,34 @@ stateTree s ws b = wordsTree (s .transfer) (s .op) (s .call) ws b
 -- a list of ten words is its ten words
 pub by-words : (Q : List ℕ → Type 0) → ((a b c d e f g h i j : ℕ) → Q (a ∷ b ∷ c ∷ d ∷ e ∷ f ∷ g ∷ h ∷ i ∷ j ∷ [])) → (c : List ℕ) → CallSized c → Q c
 by-words Q q c s = subst Q (spelled 10 c s) (q _ _ _ _ _ _ _ _ _ _)
+
+-- a transport call is due
+abbrev pub Waits : Wire → Type 0
+Waits (done m o) = ⊥
+Waits (ask m c f) = Unit {0}
+Waits (tell m c w) = Unit {0}
+
+-- the transport call c is due
+abbrev pub DueIn : Wire → Call → Type 0
+DueIn (done m o) d = ⊥
+DueIn (ask m c f) d = c ≡ d
+DueIn (tell m c w) d = c ≡ d
+
+status-flies : (d : Status) (w : Wire) (m : Memory) → Waits (statusTree d w m) → statusTree d w m ≡ w
+status-flies Running w m h = refl
+status-flies (Ended o) w m h = absurd h
+
+pub flies : (w : Wire) (s : State) (ws b : List ℕ) → w ≡ stateTree s ws b → Waits w → w ≡ flightTree (s .transfer) (s .op) (s .call) ws b
+flies w s ws b e h =
+    e ∙ status-flies (statusOf (s .call)) (flightTree (s .transfer) (s .op) (s .call) ws b) (stands (s .op) ws b) (subst Waits e h)
+
+flight-due : (d : Mode) (m : Memory) (t : Transfer) (k : Outcome → Wire) → DueIn (flight d m t k) (t .call)
+flight-due D.trying m t k = refl
+flight-due D.aborting m t k = refl
+flight-due D.raw m t k = refl
+
+-- where a transport call is due, it is the one in flight
+pub state-due : (s : State) (ws b : List ℕ) → Waits (stateTree s ws b) → DueIn (stateTree s ws b) (transferOf (s .transfer) .call)
+state-due s ws b h =
+    subst (λ (w : Wire). DueIn w (transferOf (s .transfer) .call)) (sym (flies (stateTree s ws b) s ws b refl h))
+    (flight-due (transferOf (s .transfer) .mode) (stands (s .op) ws b) (transferOf (s .transfer)) _)
