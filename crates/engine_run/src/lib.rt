@@ -1,26 +1,20 @@
-// A whole call of the engine over a budget of answers.
+// A whole call of the engine over a budget of answers: a loop over its steps.
+ghost use mathlib.Core.Bool.{Bool};
+ghost use mathlib.Core.List.{List};
 ghost use mathlib.Core.Path.{_≡_};
-ghost use Prim.Native.Nat.{_≤_};
+ghost use Prim.Native.Nat.{ℕ, _<_, _≤_};
 ghost use lib.ListN.{length, take};
-ghost use Rattle.wire.specs.Wire.{memoryOf, play};
-ghost use Rattle.wire_memap.specs.Words.{pull, push};
-ghost use Rattle.wire_memap.specs.Ops.{perform};
-ghost use Rattle.call.specs.Job.{exec};
+ghost use Rattle.wire.specs.Wire.{Wire, play};
+ghost use Rattle.wire_memap.specs.Laws.Doing.{rememberedOf};
 ghost use Rattle.engine_calls.specs.Calls.{callTree, rowFor};
-ghost use Rattle.engine_calls.specs.Laws.After.{asksJob};
-ghost use Rattle.engine_run.specs.Run.{within, Reports, RanAs};
-ghost use Rattle.engine_run.specs.Laws.Runs.{TransferRuns, OpRuns, AheadRuns};
-use call::Next;
-use engine_calls::Asks;
+ghost use Rattle.engine.specs.Step.{Lent};
+ghost use Rattle.engine_run.specs.Run.{within, RanAs};
+ghost use Rattle.engine_run.specs.Laws.Runs.{Turns, Ends};
+use engine::NextStep;
+use engine::State;
+use engine::StepAnswer;
 use engine_calls::EngineCall;
-use wire::Answer;
-use wire::Call;
-use wire::Mode;
-use wire::Outcome;
 use wire::Remembered;
-use wire::Transfer;
-use wire_memap::Op;
-use wire_memap::OpNext;
 use wire_numbers::CallEnding;
 
 // What a run leaves: how many transport calls it made, how it ended, what is remembered.
@@ -28,29 +22,6 @@ pub struct Ran {
     pub count: u32,
     pub ending: CallEnding,
     pub remembered: Remembered,
-}
-
-// How a part of a run ends: with an outcome, or where no answer is left.
-pub enum RunEnd {
-    Over(Outcome),
-    Out,
-}
-
-pub struct TransferRan {
-    pub count: u32,
-    pub end: RunEnd,
-}
-
-pub struct OpRan {
-    pub count: u32,
-    pub remembered: Remembered,
-    pub end: RunEnd,
-}
-
-// How far a run of words has come: `left` more words.
-pub struct Ahead {
-    pub count: u32,
-    pub left: u32,
 }
 
 // How many transport calls a budget and a list of answers admit.
@@ -64,258 +35,68 @@ fn limit_of(budget: u32, answers: &[u64]) -> u32
     budget
 }
 
-// A transfer in flight, until it is over.
-fn run_flight(
-    start: Transfer,
-    from: u32,
-    limit: u32,
+// One transport call of a call under way: it is noted, and the step takes its answer.
+fn turn(
+    s: State,
+    i: u32,
     answers: &[u64],
+    row: &mut [u32; 64],
+    words: &mut [u32],
+    buf: &mut [u8],
     log: &mut [u64],
-) -> TransferRan
-    requires { ⌜ limit ≤ length (now answers) ⌝ }
-    ensures { λ x. ⌜ TransferRuns start limit (now (answers .entry)) from (now (log .entry)) x (now (log .exit)) ⌝ }
+) -> StepAnswer
+    requires { ⌜ i < length (now answers) ⌝ }
+    ensures { λ x. ⌜ Turns s i (now (answers .entry)) (now (row .entry)) (now (words .entry)) (now (buf .entry)) (now (log .entry)) x (now (row .exit)) (now (words .exit)) (now (buf .exit)) (now (log .exit)) ⌝ }
 {
-    let mut t = start;
-    let mut i = from;
-    while i < limit {
-        wire_numbers::note(log, i, wire::due(t));
-        let j = i as usize;
-        let a = wire_numbers::answer_of(answers[j]);
-        i += 1;
-        match wire::transfer_step(t, a) {
-            wire::Went::Again(t2) => {
-                t = t2;
-            }
-            wire::Went::Ended(o) => {
-                return TransferRan {
-                    count: i,
-                    end: RunEnd::Over(o),
-                };
-            }
-        }
-    }
-    TransferRan {
-        count: i,
-        end: RunEnd::Out,
+    wire_numbers::note(log, i, engine::due(s));
+    let j = i as usize;
+    let a = wire_numbers::answer_of(answers[j]);
+    engine::step(s, a, row, words, buf)
+}
+
+// The report of a run.
+fn reported(count: u32, ending: CallEnding, s: State) -> Ran
+    ensures { λ r. ⌜ r ≡ record { count = count; ending = ending; remembered = rememberedOf (s .op) } ⌝ }
+{
+    let r = engine::remembered(s);
+    Ran {
+        count: count,
+        ending: ending,
+        remembered: r,
     }
 }
 
-// The same, where an Ok comes at once without the loop.
-fn run_transfer(t: Transfer, i: u32, limit: u32, answers: &[u64], log: &mut [u64]) -> TransferRan
-    requires { ⌜ limit ≤ length (now answers) ⌝ }
-    ensures { λ x. ⌜ TransferRuns t limit (now (answers .entry)) i (now (log .entry)) x (now (log .exit)) ⌝ }
-{
-    if i < limit {
-        let j = i as usize;
-        let mode = t.mode;
-        let c = t.call;
-        match wire_numbers::answer_of(answers[j]) {
-            Answer::Good(v) => match mode {
-                Mode::Trying => {
-                    wire_numbers::note(log, i, c);
-                    return TransferRan {
-                        count: i + 1,
-                        end: RunEnd::Over(Outcome::Value(v)),
-                    };
-                }
-                Mode::Raw => {
-                    wire_numbers::note(log, i, c);
-                    return TransferRan {
-                        count: i + 1,
-                        end: RunEnd::Over(Outcome::Value(v)),
-                    };
-                }
-                Mode::Aborting => {}
-            },
-            Answer::SwdError(_) => {}
-            Answer::NotSupported => {}
-            Answer::Other => {}
-        }
-    }
-    run_flight(t, i, limit, answers, log)
-}
-
-// A run of reads, as long as each is answered Ok at once.
-fn pull_ahead(
-    last: u32,
-    more: u32,
-    from: u32,
-    limit: u32,
-    answers: &[u64],
-    ws: &mut [u32],
-    log: &mut [u64],
-) -> Ahead
-    requires { ⌜ limit ≤ length (now answers) ⌝ }
-    ensures { λ x. ⌜ AheadRuns (pull last) more limit (now (answers .entry)) from (now (ws .entry)) (now (log .entry)) x (now (ws .exit)) (now (log .exit)) ⌝ }
-{
-    let mut n = more;
-    let mut i = from;
-    while i < limit {
-        if n == 0 {
-            return Ahead { count: i, left: 0 };
-        }
-        let j = i as usize;
-        let Answer::Good(v) = wire_numbers::answer_of(answers[j]) else {
-            return Ahead { count: i, left: n };
-        };
-        wire_numbers::note(
-            log,
-            i,
-            Call::Transfer {
-                request: 15,
-                word: 0,
-            },
-        );
-        wire_memap::place_word(ws, wire_memap::minus(last, n), v);
-        n -= 1;
-        i += 1;
-    }
-    Ahead { count: i, left: n }
-}
-
-// A run of writes, as long as each is answered Ok at once.
-fn push_ahead(
-    last: u32,
-    more: u32,
-    from: u32,
-    limit: u32,
-    answers: &[u64],
-    ws: &[u32],
-    log: &mut [u64],
-) -> Ahead
-    requires { ⌜ limit ≤ length (now answers) ⌝ }
-    ensures { λ x. ⌜ AheadRuns (push last) more limit (now (answers .entry)) from (now (ws .entry)) (now (log .entry)) x (now (ws .entry)) (now (log .exit)) ⌝ }
-{
-    let mut n = more;
-    let mut i = from;
-    while i < limit {
-        if n == 0 {
-            return Ahead { count: i, left: 0 };
-        }
-        let j = i as usize;
-        let Answer::Good(_) = wire_numbers::answer_of(answers[j]) else {
-            return Ahead { count: i, left: n };
-        };
-        let v = wire_memap::word_at(ws, wire_memap::minus(last, n - 1));
-        wire_numbers::note(
-            log,
-            i,
-            Call::Transfer {
-                request: 13,
-                word: v,
-            },
-        );
-        n -= 1;
-        i += 1;
-    }
-    Ahead { count: i, left: n }
-}
-
-// An operation, until it is over.
-fn run_op(
-    before: Remembered,
-    w: Op,
-    from: u32,
-    limit: u32,
-    answers: &[u64],
-    ws: &mut [u32],
-    log: &mut [u64],
-) -> OpRan
-    requires { ⌜ limit ≤ length (now answers) ⌝ }
-    ensures { λ x. ⌜ OpRuns (perform w) before limit (now (answers .entry)) from (now (ws .entry)) (now (log .entry)) x (now (ws .exit)) (now (log .exit)) ⌝ }
-{
-    let mut s = wire_memap::op_start(before, w);
-    let mut r = before;
-    let mut i = from;
-    loop {
-        let l = s.launched;
-        let t = l.transfer;
-        let x = run_transfer(t, i, limit, answers, log);
-        i = x.count;
-        let end = x.end;
-        match end {
-            RunEnd::Out => return OpRan {
-                count: i,
-                remembered: r,
-                end: RunEnd::Out,
-            },
-            RunEnd::Over(o) => match wire_memap::op_ended(r, s, o, ws) {
-                OpNext::Moving(r2, s2) => {
-                    r = r2;
-                    s = s2;
-                }
-                OpNext::Finished(r2, o2) => return OpRan {
-                    count: i,
-                    remembered: r2,
-                    end: RunEnd::Over(o2),
-                },
-                OpNext::Pulling(r2, t, n) => {
-                    let a = pull_ahead(t.last, n, i, limit, answers, ws, log);
-                    r = r2;
-                    i = a.count;
-                    s = wire_memap::pull_on(t, a.left);
-                }
-                OpNext::Pushing(r2, t, n) => {
-                    let a = push_ahead(t.last, n, i, limit, answers, ws, log);
-                    r = r2;
-                    i = a.count;
-                    s = wire_memap::push_on(t, a.left, ws);
-                }
-            },
-        }
-    }
-}
-
-// The run of a call, operation by operation.
+// The turns of a call that is started, until it ends or no answer is left.
 fn run_on(
-    before: Remembered,
-    start: Asks,
-    budget: u32,
+    start: StepAnswer,
+    limit: u32,
     answers: &[u64],
-    ws: &mut [u32],
+    row: &mut [u32; 64],
+    words: &mut [u32],
     buf: &mut [u8],
     log: &mut [u64],
 ) -> Ran
-    ensures { λ r. ⌜ Reports (play (exec (asksJob start) (memoryOf before (now (ws .entry)) (now (buf .entry)))) (within budget (now (answers .entry)))) r (now (ws .exit)) (now (buf .exit)) (now (log .entry)) (now (log .exit)) ⌝ }
+    requires { ⌜ limit ≤ length (now answers) ⌝ }
+    ensures { λ r. ⌜ ((own : Bool) (w : Wire) (row₀ words₀ : List ℕ) → Lent own w start row₀ words₀ (now (row .entry)) (now (words .entry)) (now (buf .entry)) → Ends own w limit (now (answers .entry)) row₀ words₀ (now (log .entry)) r (now (row .exit)) (now (words .exit)) (now (buf .exit)) (now (log .exit))) ⌝ }
 {
-    let limit = limit_of(budget, answers);
-    let mut r = before;
-    let mut a = start;
+    let mut x = start;
     let mut i: u32 = 0;
     loop {
-        let c = a.change;
-        let p = a.at;
-        let n = a.next;
-        let r2 = call::make_change(c, r, ws, buf);
-        match n {
-            Next::End(o) => {
-                let e = wire_numbers::result_of(o);
-                return Ran {
-                    count: i,
-                    ending: e,
-                    remembered: r2,
-                };
+        let next = x.next;
+        match next {
+            NextStep::Finish(e) => {
+                return reported(i, e, x.state);
             }
-            Next::Do(w) => {
-                let x = run_op(r2, w, i, limit, answers, ws, log);
-                r = x.remembered;
-                i = x.count;
-                let end = x.end;
-                match end {
-                    RunEnd::Out => {
-                        return Ran {
-                            count: i,
-                            ending: CallEnding {
-                                number: 11,
-                                value: 0,
-                            },
-                            remembered: r,
-                        };
-                    }
-                    RunEnd::Over(o) => {
-                        a = engine_calls::call_after(p, o);
-                    }
+            NextStep::Make(_) => {
+                if limit <= i {
+                    let spent = CallEnding {
+                        number: 11,
+                        value: 0,
+                    };
+                    return reported(i, spent, x.state);
                 }
+                x = turn(x.state, i, answers, row, words, buf, log);
+                i += 1;
             }
         }
     }
@@ -336,16 +117,12 @@ pub fn run(
 ) -> Ran
     ensures { λ x. ⌜ RanAs c (play (callTree c r (rowFor c (now (frame .entry))) (now (words .entry)) (now (buf .entry))) (within budget (now (answers .entry)))) x (now (frame .entry)) (now (words .entry)) (now (frame .exit)) (now (words .exit)) (now (buf .exit)) (now (log .entry)) (now (log .exit)) ⌝ }
 {
-    let n = words.len();
-    let m = buf.len();
-    let a = engine_calls::call_start(c, n, m);
-    if engine_calls::owns(c) {
-        return run_on(r, a, budget, answers, words, buf, log);
-    }
     let f = engine_calls::frame_for(c);
     let before = *frame;
     let mut row = engine_calls::row_for(f, before);
-    let ran = run_on(r, a, budget, answers, &mut row, buf, log);
+    let limit = limit_of(budget, answers);
+    let start = engine::start(r, c, &mut row, words, buf);
+    let ran = run_on(start, limit, answers, &mut row, words, buf, log);
     *frame = engine_calls::frame_left(f, ran.ending.number == 0, row, before);
     ran
 }

@@ -1,29 +1,12 @@
--- The call runs over the caller's words or over a row with the frame that it finds; the report over those is the one over what
--- the caller lends, the frame that the call leaves among it.
-use mathlib.Core.Path.{sym, _∙_}
-use Rattle.engine_run.specs.Laws.Runs.{own-ran, row-ran}
+-- The call is started over its row and the words that are lent, run to its end, and the frame that it leaves handed over.
+use Rattle.engine_run.specs.Laws.Runs.{run-ran}
 use borrow.Author.Needs.{needs}
 use Rattle.engine_run.proofs.run.Statement.{statement}
 use Rattle.engine_run.proofs.run.Tie as tie
 
-returns : tie.Need-returns
-returns c =
-    let ran = c .before .before .before .before .before .before in let test = ran .before .before .before .before in
-    let own = test .before in let started = own .before in
-    simp (sym (own .owns .ensures) ∙ test .if1 .taken) (rw (started .call-start .ensures)
-    (own-ran _ _ _ _ _ _ _ _ _ (sym (test .if1 .taken) ∙ own .owns .ensures) (ran .run-on .ensures)))
-
-returns-2 : tie.Need-returns-2
-returns-2 c =
-    let ran = c .before .before .before .before .before .before .before in let rowed = ran .before .before .before .before in
-    let framed = rowed .before .before in let test = framed .before in let own = test .before in let started = own .before in
-    let frame = framed .frame-for .ensures in
-    simp (sym (own .owns .ensures) ∙ test .if1 .left) (rw (started .call-start .ensures) (rw (sym frame) (rw (sym (rowed .row-for .ensures))
-    (row-ran _ _ _ _ _ _ _ _ _ _ _ (sym (test .if1 .left) ∙ own .owns .ensures) frame (ran .run-on2 .ensures) (c .frame-left .ensures)))))
-
 pub run-spec : {M : Type 1} → statement M
 run-spec =
-    tie.close (tie.spec
-    (λ c κs. search needs) (λ c κs. search needs) (λ c κs. search needs) (λ c. search needs) (λ c. search needs) (λ c. search needs) returns
-    (λ c κs. search needs) (λ c κs. search needs) (λ c. search needs) (λ c κs. search needs) (λ c κs. search needs) (λ c. search needs)
-    (λ c. search needs) returns-2)
+    tie.close (tie.spec (λ c κs. search needs) (λ c κs. search needs) (λ c κs. search needs) (λ c κs. search needs) (λ c κs. c .before .before .before .before .before .before .before .before .before .before .before .before .limit-of .ensures .1) (λ c κs. search needs) (λ c. search needs) (λ c. search needs) (λ c. search needs)
+    (λ c. let a = c .before .before .before .before .before .before .before .before .before .before .before .before .before .before .before .before .before .before .before .before .before .before .before .before .before .before .before .before .before .args in run-ran (a .c) (a .r) (a .budget) _ (a .answers .now) (a .frame .now) _ (a .words .now) (a .buf .now) (a .log .now) _
+    (c .before .before .before .before .before .before .before .before .before .before .before .before .before .before .before .before .before .before .before .before .before .before .before .before .frame-for .ensures) (c .before .before .before .before .before .before .before .before .before .before .before .before .before .before .before .before .before .before .before .before .before .before .row-for .ensures) (c .before .before .before .before .before .before .before .before .before .before .before .before .before .before .before .before .before .before .before .before .before .limit-of .ensures .0)
+    (c .before .before .before .before .before .before .before .before .run-on .ensures _ _ _ _ (c .before .before .before .before .before .before .before .before .before .before .before .before .before .before .before .before .before .start .ensures)) (c .frame-left .ensures)))

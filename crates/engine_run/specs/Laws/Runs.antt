@@ -1,135 +1,85 @@
--- What is left of a run when a transfer, an operation or a call is over, or where no answer is left. Serves the proofs only.
-use Prim.Native.Nat.{ℕ, _<_, _≤_}
-use mathlib.Core.Bool.{Bool, true, false, true≢false}
+-- How far a run has come, and what it reports where it ends. Serves the proofs only.
+use Prim.Native.Nat.{ℕ, _+_, _<_, _≤_}
+use mathlib.Core.Bool.{Bool, true, false, true≢false, cond}
 use mathlib.Core.Path.{_≡_, refl, sym, ap, subst, _∙_}
-use mathlib.Core.List.{List, []}
+use mathlib.Core.List.{List, [], map}
 use native.Mathlib.Omega.{arith}
 use lib.Dec.{eqb}
-use Rattle.wire.specs.Wire.{Wire, Memory, memoryOf, done, play, Played, Ending, ended, spent}
-use Rattle.wire.specs.Laws.Flight.{transferTree}
+use lib.ListN.{length, set, getD, take}
+use Rattle.wire.specs.Wire.{Wire, Memory, memoryOf, done, ask, tell, follow, play, Played, Ending, ended, spent}
+use Rattle.wire.specs.Laws.Flight.{transferOf}
 use Rattle.wire.specs.declared.Answer.{Answer}
-use Rattle.wire.specs.declared.Outcome.{Outcome}
-use Rattle.wire.specs.declared.Transfer.{Transfer}
-use Rattle.wire.specs.declared.Remembered.{Remembered}
-use Rattle.wire_memap.specs.Action.{Then, Action}
-use Rattle.wire_memap.specs.Laws.Flight.{reachAfter, opAfter, startedTree}
-use Rattle.wire_memap.specs.Ops.{perform}
-use Rattle.wire_memap.specs.declared.Op.{Op}
-use Rattle.wire_memap.specs.declared.Started.{Started}
-use Rattle.call.specs.Change.{changed}
-use Rattle.call.specs.Job.{Job, ends, exec}
-use Rattle.call.specs.Laws.Asks.{nextJob, thenOf, then-is, exec-op}
-use Rattle.call.specs.declared.Next.{Next}
-use Rattle.call.specs.declared.Next.the-variants as X
+use Rattle.wire.specs.declared.Call.{Call}
+use Rattle.wire_memap.specs.Laws.Doing.{rememberedOf}
+use Rattle.wire_numbers.specs.Log.{answerOf, codeOf, callOf}
 use Rattle.wire_numbers.specs.Results.{resultOf, endingOf}
 use Rattle.wire_numbers.specs.Laws.Result.{number-tells}
 use Rattle.wire_numbers.specs.declared.CallEnding.{CallEnding}
-use Rattle.engine_calls.specs.Calls.{lent, pick, frameFor, leave, wordsLeft, frameLeft}
-use Rattle.engine_calls.specs.Laws.After.{callAfter, asksJob, asks-next}
-use Rattle.engine_calls.specs.declared.Asks.{Asks}
+use Rattle.wire_numbers.specs.declared.TransportCall.{TransportCall}
+use Rattle.engine_calls.specs.Calls.{lent, callTree, frameFor, rowWith, rowFor, leave, wordsLeft, frameLeft}
+use Rattle.engine_calls.specs.declared.Frame.{Frame}
+use Rattle.wire.specs.declared.Remembered.{Remembered}
 use Rattle.engine_calls.specs.declared.EngineCall.{EngineCall}
 use Rattle.engine_calls.specs.declared.EngineCall.the-variants as C
-use Rattle.engine_calls.specs.declared.Frame.{Frame}
-use Rattle.engine_run.specs.Laws.Along.{Along, Goes, rest, stopped, along-same}
-use Rattle.engine_run.specs.Run.{Reports, RanAs}
-use Rattle.engine_run.specs.declared.RunEnd.{RunEnd}
-use Rattle.engine_run.specs.declared.RunEnd.the-variants.{Over, Out}
-use Rattle.engine_run.specs.declared.TransferRan.{TransferRan}
-use Rattle.engine_run.specs.declared.OpRan.{OpRan}
-use Rattle.engine_run.specs.declared.Ahead.{Ahead}
+use Rattle.engine.specs.Step.{nextOf, memoryIn, Steps, Lent, Stepped}
+use Rattle.engine.specs.Laws.State.{ownOf, stateTree, Waits, DueIn, state-due}
+use Rattle.engine.specs.declared.NextStep.{NextStep}
+use Rattle.engine.specs.declared.NextStep.the-variants as N
+use Rattle.engine.specs.declared.State.{State}
+use Rattle.engine.specs.declared.StepAnswer.{StepAnswer}
+use Rattle.engine_run.specs.Laws.Along.{Along, rest, along-none, along-step, rest-none}
+use Rattle.engine_run.specs.Run.{within, Reports, RanAs}
 use Rattle.engine_run.specs.declared.Ran.{Ran}
 
-abbrev pub leftOf : RunEnd → Memory → (Outcome → Wire) → List Answer → Played
-leftOf (Over o) m k l = play (k o) l
-leftOf Out m k l = stopped m
+-- a turn of the run: the transport call in flight is noted, and the step takes its answer
+pub record Turns (s : State) (i : ℕ) (xs row₀ words₀ b₀ l₀ : List ℕ) (x : StepAnswer) (row words b l : List ℕ) : Type 0 where
+  pub step : Stepped s (answerOf (getD xs i 0)) x row₀ words₀ b₀ row words b
+  pub log : l ≡ set l₀ i (codeOf (transferOf (s .transfer) .call))
+  pub readable : callOf (codeOf (transferOf (s .transfer) .call)) ≡ transferOf (s .transfer) .call
 
--- what is over has made a transport call
-abbrev pub Progress : RunEnd → ℕ → ℕ → ℕ → Type 0
-Progress (Over o) i j limit = (i < j) × (j ≤ limit)
-Progress Out i j limit = Unit {0}
+-- After i transport calls of the run of the tree w: the answer x reports the tree at which it stands, and what is left of the run
+-- is that tree's. `row₀` and `words₀` were there before the call.
+pub record Runs (own : Bool) (w : Wire) (limit : ℕ) (xs row₀ words₀ l₀ : List ℕ) (i : ℕ) (row words b l : List ℕ) (x : StepAnswer) : Type 0 where
+  pub at : Lent own (stateTree (x .state) (cond own words row) b) x row₀ words₀ row words b
+  pub along : Along i l₀ l (play w (rest limit xs 0)) (play (stateTree (x .state) (cond own words row) b) (rest limit xs i))
 
--- a transfer, an operation and a part of a run of words, run from call i and log l on
-abbrev pub TransferRuns : Transfer → ℕ → List ℕ → ℕ → List ℕ → TransferRan → List ℕ → Type 0
-TransferRuns t limit xs i l x l₂ = Progress (x .end) i (x .count) limit × ((m : Memory) (k : Outcome → Wire) →
-    Goes i l (play (transferTree m t k) (rest limit xs i)) (x .count) l₂ (leftOf (x .end) m k (rest limit xs (x .count))))
+pub runs-start : (own : Bool) (w : Wire) (limit : ℕ) (xs row₀ words₀ l row words b : List ℕ) (x : StepAnswer) → Lent own w x row₀ words₀ row words b
+    → Runs own w limit xs row₀ words₀ l 0 row words b l x
+runs-start own w limit xs row₀ words₀ l row words b x h =
+    subst (λ (v : Wire). Runs own v limit xs row₀ words₀ l 0 row words b l x) (sym (h .steps .tree)) (record {
+      at = subst (λ (v : Wire). Lent own v x row₀ words₀ row words b) (h .steps .tree) h;
+      along = along-none l _;
+    })
 
-abbrev pub OpRuns : Action → Remembered → ℕ → List ℕ → ℕ → List ℕ → List ℕ → OpRan → List ℕ → List ℕ → Type 0
-OpRuns w r limit xs i ws l x ws₂ l₂ = Progress (x .end) i (x .count) limit × ((buf : List ℕ) (k : Then) →
-    Goes i l (play (w k (memoryOf r ws buf)) (rest limit xs i)) (x .count) l₂
-    (leftOf (x .end) (memoryOf (x .remembered) ws₂ buf) (k (memoryOf (x .remembered) ws₂ buf)) (rest limit xs (x .count))))
+-- the reply tells whether a transport call is due
+make-waits : (w : Wire) (c : TransportCall) → N.Make c ≡ nextOf w → Waits w
+make-waits (done m o) c h = let z : _≡_ {A = ℕ} 0 1 = cc in absurd (omega arith)
+make-waits (ask m d f) c h = tt
+make-waits (tell m d w) c h = tt
 
-abbrev pub AheadRuns : (ℕ → Action) → ℕ → ℕ → List ℕ → ℕ → List ℕ → List ℕ → Ahead → List ℕ → List ℕ → Type 0
-AheadRuns w n limit xs i ws l x ws₂ l₂ = (i ≤ x .count) × ((r : Remembered) (buf : List ℕ) (k : Then) →
-    Goes i l (play (w n k (memoryOf r ws buf)) (rest limit xs i)) (x .count) l₂ (play (w (x .left) k (memoryOf r ws₂ buf)) (rest limit xs (x .count))))
+pub runs-turn : (own : Bool) (w : Wire) (limit : ℕ) (xs row₀ words₀ l₀ : List ℕ) (i : ℕ) (row words b l : List ℕ) (x : StepAnswer) (c : TransportCall)
+    (y : StepAnswer) (row₂ words₂ b₂ l₂ : List ℕ) → x .next ≡ N.Make c → i < limit → limit ≤ length xs → Turns (x .state) i xs row words b l y row₂ words₂ b₂ l₂
+    → Runs own w limit xs row₀ words₀ l₀ i row words b l x → Runs own w limit xs row₀ words₀ l₀ (i + 1) row₂ words₂ b₂ l₂ y
+runs-turn own w limit xs row₀ words₀ l₀ i row words b l x c y row₂ words₂ b₂ l₂ e h g t r = record {
+  at = record {
+    steps = subst (λ (v : Wire). Steps v y (cond own words₂ row₂) b₂) (stepped .steps .tree) (stepped .steps);
+    other = stepped .other ∙ r .at .other;
+    whose = stepped .whose;
+  };
+  along = along-step here limit xs i l₀ l _ (transferOf (x .state .transfer) .call) l₂ a _ h g due (t .log, t .readable) refl (stepped .steps .tree) (r .along);
+}
+  where
+    a : Answer
+    a = answerOf (getD xs i 0)
 
-pub over-progress : (e : RunEnd) (i j limit : ℕ) (o : Outcome) → e ≡ Over o → Progress e i j limit → (i < j) × (j ≤ limit)
-over-progress e i j limit o h x = subst (λ (z : RunEnd). Progress z i j limit) h x
+    here : Wire
+    here = stateTree (x .state) (cond own words row) b
 
--- an operation whose transfer is over goes on with w
-pub op-goes : (s : Started) (r : Remembered) (ws buf : List ℕ) (k : Then) (limit : ℕ) (xs : List ℕ) (i : ℕ) (l₀ l : List ℕ) (p : Played)
-    (x : TransferRan) (l₂ : List ℕ) (o : Outcome) (w : Wire) → TransferRuns (s .launched .transfer) limit xs i l x l₂ → x .end ≡ Over o
-    → reachAfter (s .launched .reach) (opAfter (s .doing) k) (memoryOf r ws buf) o ≡ w
-    → Along i l₀ l p (play (startedTree s k (memoryOf r ws buf)) (rest limit xs i)) → Along (x .count) l₀ l₂ p (play w (rest limit xs (x .count)))
-op-goes s r ws buf k limit xs i l₀ l p x l₂ o w h e f al =
-    let then : Outcome → Wire = reachAfter (s .launched .reach) (opAfter (s .doing) k) (memoryOf r ws buf) in
-    along-same (then o) w (x .count) l₀ l₂ p (rest limit xs (x .count)) f
-    (subst (λ (z : RunEnd). Along (x .count) l₀ l₂ p (leftOf z (memoryOf r ws buf) then (rest limit xs (x .count)))) e (h .1
-    (memoryOf r ws buf) then l₀ p al))
+    stepped : Lent own (follow here a) y row words row₂ words₂ b₂
+    stepped = subst (λ (o : Bool). Lent o (follow (stateTree (x .state) (cond o words row) b) a) y row words row₂ words₂ b₂) (r .at .whose) (t .step .lent)
 
--- or stops, no answer being left
-pub op-stops : (s : Started) (r : Remembered) (ws buf : List ℕ) (k : Then) (limit : ℕ) (xs : List ℕ) (i : ℕ) (l₀ l : List ℕ) (p : Played)
-    (x : TransferRan) (l₂ : List ℕ) → TransferRuns (s .launched .transfer) limit xs i l x l₂ → x .end ≡ Out
-    → Along i l₀ l p (play (startedTree s k (memoryOf r ws buf)) (rest limit xs i)) → Along (x .count) l₀ l₂ p (stopped (memoryOf r ws buf))
-op-stops s r ws buf k limit xs i l₀ l p x l₂ h e al =
-    let then : Outcome → Wire = reachAfter (s .launched .reach) (opAfter (s .doing) k) (memoryOf r ws buf) in
-    subst (λ (z : RunEnd). Along (x .count) l₀ l₂ p (leftOf z (memoryOf r ws buf) then (rest limit xs (x .count)))) e (h .1
-    (memoryOf r ws buf) then l₀ p al)
-
--- the call ends, or asks for an operation
-exec-end : (o : Outcome) (m : Memory) → exec (ends o) m ≡ done m o
-unfolding exec
-exec-end o m = refl
-
-pub asks-end : (a : Asks) (m m₂ : Memory) (o : Outcome) → changed (a .change) m ≡ m₂ → a .next ≡ X.End o → exec (asksJob a) m ≡ done m₂ o
-asks-end a m m₂ o h e = asks-next a m m₂ h ∙ ap (λ (n : Next). exec (nextJob n (callAfter (a .at))) m₂) e ∙ exec-end o m₂
-
-asks-op : (a : Asks) (m m₂ : Memory) (w : Op) → changed (a .change) m ≡ m₂ → a .next ≡ X.Do w
-    → exec (asksJob a) m ≡ perform w (thenOf (callAfter (a .at))) m₂
-asks-op a m m₂ w h e =
-    asks-next a m m₂ h ∙ ap (λ (n : Next). exec (nextJob n (callAfter (a .at))) m₂) e ∙ exec-op w (callAfter (a .at)) m₂
-
--- the outcome of the operation that a call asks for
-op-left : (a : Asks) (m : Memory) (w : Op) (r : Remembered) (ws buf : List ℕ) (limit : ℕ) (xs : List ℕ) (i : ℕ) (l₀ l : List ℕ) (p : Played)
-    (x : OpRan) (ws₂ l₂ : List ℕ) → changed (a .change) m ≡ memoryOf r ws buf → a .next ≡ X.Do w → OpRuns (perform w) r limit xs i ws l x ws₂ l₂
-    → Along i l₀ l p (play (exec (asksJob a) m) (rest limit xs i))
-    → Along (x .count) l₀ l₂ p (leftOf (x .end) (memoryOf (x .remembered) ws₂ buf) (thenOf (callAfter (a .at)) (memoryOf (x .remembered) ws₂ buf))
-    (rest limit xs (x .count)))
-op-left a m w r ws buf limit xs i l₀ l p x ws₂ l₂ e f h al =
-    h .1 buf (thenOf (callAfter (a .at))) l₀ p (along-same _ _ i l₀ l p (rest limit xs i) (asks-op a m (memoryOf r ws buf) w e f) al)
-
--- a call whose operation is over goes on with what it asks for next
-pub call-goes : (a : Asks) (m : Memory) (w : Op) (r : Remembered) (ws buf : List ℕ) (limit : ℕ) (xs : List ℕ) (i : ℕ) (l₀ l : List ℕ) (p : Played)
-    (x : OpRan) (ws₂ l₂ : List ℕ) (o : Outcome) (a₂ : Asks) → changed (a .change) m ≡ memoryOf r ws buf → a .next ≡ X.Do w
-    → OpRuns (perform w) r limit xs i ws l x ws₂ l₂ → x .end ≡ Over o → callAfter (a .at) o ≡ asksJob a₂
-    → Along i l₀ l p (play (exec (asksJob a) m) (rest limit xs i))
-    → Along (x .count) l₀ l₂ p (play (exec (asksJob a₂) (memoryOf (x .remembered) ws₂ buf)) (rest limit xs (x .count)))
-call-goes a m w r ws buf limit xs i l₀ l p x ws₂ l₂ o a₂ e f h d c al =
-    let m₂ : Memory = memoryOf (x .remembered) ws₂ buf in
-    let more : List Answer = rest limit xs (x .count) in
-    along-same (thenOf (callAfter (a .at)) m₂ o) (exec (asksJob a₂) m₂) (x .count) l₀ l₂ p more (then-is (callAfter (a .at)) m₂ o
-    ∙ ap (λ (j : Job). exec j m₂) c)
-    (subst (λ (z : RunEnd). Along (x .count) l₀ l₂ p (leftOf z m₂ (thenOf (callAfter (a .at)) m₂) more)) d
-    (op-left a m w r ws buf limit xs i l₀ l p x ws₂ l₂ e f h al))
-
--- or stops, no answer being left
-pub call-stops : (a : Asks) (m : Memory) (w : Op) (r : Remembered) (ws buf : List ℕ) (limit : ℕ) (xs : List ℕ) (i : ℕ) (l₀ l : List ℕ) (p : Played)
-    (x : OpRan) (ws₂ l₂ : List ℕ) → changed (a .change) m ≡ memoryOf r ws buf → a .next ≡ X.Do w
-    → OpRuns (perform w) r limit xs i ws l x ws₂ l₂ → x .end ≡ Out → Along i l₀ l p (play (exec (asksJob a) m) (rest limit xs i))
-    → Along (x .count) l₀ l₂ p (stopped (memoryOf (x .remembered) ws₂ buf))
-call-stops a m w r ws buf limit xs i l₀ l p x ws₂ l₂ e f h d al =
-    let m₂ : Memory = memoryOf (x .remembered) ws₂ buf in
-    subst (λ (z : RunEnd). Along (x .count) l₀ l₂ p (leftOf z m₂ (thenOf (callAfter (a .at)) m₂) (rest limit xs (x .count)))) d
-    (op-left a m w r ws buf limit xs i l₀ l p x ws₂ l₂ e f h al)
+    due : DueIn here (transferOf (x .state .transfer) .call)
+    due = state-due (x .state) (cond own words row) b (make-waits here c (sym e ∙ r .at .steps .next))
 
 -- the report of a run of which nothing is left
 reports-none : (i : ℕ) (l₀ l : List ℕ) (p : Played) (x : Ending) (r : Ran) (ws b : List ℕ)
@@ -146,16 +96,53 @@ reports-none i l₀ l p x r ws b al n e =
     }
 
 -- the call has ended
-pub ended-at : (i : ℕ) (l₀ l : List ℕ) (p : Played) (r : Remembered) (ws b : List ℕ) (o : Outcome) (more : List Answer)
-    → Along i l₀ l p (play (done (memoryOf r ws b) o) more)
-    → Reports p (record { count = i; ending = resultOf o; remembered = r }) ws b l₀ l
+finish-at : (w : Wire) (e : CallEnding) (i : ℕ) (l₀ l : List ℕ) (p : Played) (r : Ran) (ws b : List ℕ) (more : List Answer) → N.Finish e ≡ nextOf w
+    → memoryOf (r .remembered) ws b ≡ memoryIn w → r .count ≡ i → r .ending ≡ e → Along i l₀ l p (play w more) → Reports p r ws b l₀ l
 unfolding play
-ended-at i l₀ l p r ws b o more al = reports-none i l₀ l p (ended o) _ ws b al refl refl
+finish-at (done m o) e i l₀ l p r ws b more h g n k al =
+    reports-none i l₀ l p (ended o) r ws b (subst (λ (z : Memory). Along i l₀ l p (record { calls = []; memory = z; ending = ended o })) (sym g) al) n
+    (k ∙ ap endingIn h)
+  where
+    endingIn : NextStep → CallEnding
+    endingIn (N.Make c) = e
+    endingIn (N.Finish f) = f
+finish-at (ask m c f) e i l₀ l p r ws b more h g n k al = let z : _≡_ {A = ℕ} 0 1 = cc in absurd (omega arith)
+finish-at (tell m c w) e i l₀ l p r ws b more h g n k al = let z : _≡_ {A = ℕ} 0 1 = cc in absurd (omega arith)
 
 -- the budget is spent
-pub spent-at : (i : ℕ) (l₀ l : List ℕ) (p : Played) (r : Remembered) (ws b : List ℕ) → Along i l₀ l p (stopped (memoryOf r ws b))
-    → Reports p (record { count = i; ending = endingOf spent; remembered = r }) ws b l₀ l
-spent-at i l₀ l p r ws b al = reports-none i l₀ l p spent _ ws b al refl refl
+spent-at : (w : Wire) (c : TransportCall) (i : ℕ) (l₀ l : List ℕ) (p : Played) (r : Ran) (ws b : List ℕ) → N.Make c ≡ nextOf w
+    → memoryOf (r .remembered) ws b ≡ memoryIn w → r .count ≡ i → r .ending ≡ endingOf spent → Along i l₀ l p (play w []) → Reports p r ws b l₀ l
+unfolding play
+spent-at (done m o) c i l₀ l p r ws b h g n k al = let z : _≡_ {A = ℕ} 0 1 = cc in absurd (omega arith)
+spent-at (ask m d f) c i l₀ l p r ws b h g n k al =
+    reports-none i l₀ l p spent r ws b (subst (λ (z : Memory). Along i l₀ l p (record { calls = []; memory = z; ending = spent })) (sym g) al) n k
+spent-at (tell m d w) c i l₀ l p r ws b h g n k al =
+    reports-none i l₀ l p spent r ws b (subst (λ (z : Memory). Along i l₀ l p (record { calls = []; memory = z; ending = spent })) (sym g) al) n k
+
+-- what a run of the tree w comes to: its report, and what of row and words it did not run over
+pub record Ends (own : Bool) (w : Wire) (limit : ℕ) (xs row₀ words₀ l₀ : List ℕ) (r : Ran) (row words b l : List ℕ) : Type 0 where
+  pub reports : Reports (play w (rest limit xs 0)) r (cond own words row) b l₀ l
+  pub other : cond own row words ≡ cond own row₀ words₀
+
+module _ (own : Bool) (w : Wire) (limit : ℕ) (xs row₀ words₀ l₀ : List ℕ) (i : ℕ) (row words b l : List ℕ) (x : StepAnswer) where
+  pub runs-finish : (e : CallEnding) (r : Ran) → x .next ≡ N.Finish e → r ≡ record { count = i; ending = e; remembered = rememberedOf (x .state .op) }
+      → Runs own w limit xs row₀ words₀ l₀ i row words b l x → Ends own w limit xs row₀ words₀ l₀ r row words b l
+  runs-finish e r h k g = record {
+    reports = finish-at (stateTree (x .state) (cond own words row) b) e i l₀ l _ r (cond own words row) b (rest limit xs i) (sym h ∙ g .at .steps .next)
+        (ap (λ (y : Ran). memoryOf (y .remembered) (cond own words row) b) k ∙ g .at .steps .memory) (ap (λ (y : Ran). y .count) k) (ap (λ (y : Ran). y .ending) k)
+        (g .along);
+    other = g .at .other;
+  }
+
+  pub runs-spent : (c : TransportCall) (r : Ran) → x .next ≡ N.Make c → limit ≤ i
+      → r ≡ record { count = i; ending = endingOf spent; remembered = rememberedOf (x .state .op) }
+      → Runs own w limit xs row₀ words₀ l₀ i row words b l x → Ends own w limit xs row₀ words₀ l₀ r row words b l
+  runs-spent c r h z k g = record {
+    reports = spent-at (stateTree (x .state) (cond own words row) b) c i l₀ l _ r (cond own words row) b (sym h ∙ g .at .steps .next)
+        (ap (λ (y : Ran). memoryOf (y .remembered) (cond own words row) b) k ∙ g .at .steps .memory) (ap (λ (y : Ran). y .count) k) (ap (λ (y : Ran). y .ending) k)
+        (subst (λ (more : List Answer). Along i l₀ l (play w (rest limit xs 0)) (play (stateTree (x .state) (cond own words row) b) more)) (rest-none limit xs i z) (g .along));
+    other = g .at .other;
+  }
 
 -- a report over the words of the call's runs is one over what the caller lends
 reports-ran : (c : EngineCall) (p : Played) (r : Ran) (ws frame₀ words₀ frame words b l₀ l : List ℕ)
@@ -176,22 +163,41 @@ reports-ran c p r ws frame₀ words₀ frame words b l₀ l f e h =
     }
 
 -- no call that runs over the caller's words has a frame
-pub own-frame : (c : EngineCall) (ok : Bool) (ws frame : List ℕ) → true ≡ lent c → frame ≡ leave (frameFor c) ok ws frame
+own-frame : (c : EngineCall) (ok : Bool) (ws frame : List ℕ) → true ≡ lent c → frame ≡ leave (frameFor c) ok ws frame
 own-frame (C.Connect c) ok ws frame e = refl
 own-frame (C.Memory c) ok ws frame e = refl
 own-frame (C.Core c) ok ws frame e = absurd (true≢false e)
 own-frame (C.Fpb c) ok ws frame e = refl
 own-frame (C.Nrf c) ok ws frame e = refl
 
--- of a call that runs over the caller's words
-pub own-ran : (c : EngineCall) (p : Played) (r : Ran) (ws frame words₀ b l₀ l : List ℕ) → true ≡ lent c
-    → Reports p r ws b l₀ l → RanAs c p r frame words₀ frame ws b l₀ l
-own-ran c p r ws frame words₀ b l₀ l e h =
-    reports-ran c p r ws frame words₀ frame ws b l₀ l (own-frame c _ ws frame e) (ap (λ (own : Bool). pick own ws words₀) e) h
+-- what a run leaves is what the caller finds: his words, and the frame in the row's first words
+pub ran-as : (c : EngineCall) (own : Bool) (p : Played) (r : Ran) (row words b l₀ l row₀ words₀ frame₀ frame : List ℕ) → lent c ≡ own
+    → Reports p r (cond own words row) b l₀ l → cond own row words ≡ cond own row₀ words₀
+    → frame ≡ leave (frameFor c) (eqb (r .ending .number) 0) row frame₀ → RanAs c p r frame₀ words₀ frame words b l₀ l
+ran-as c true p r row words b l₀ l row₀ words₀ frame₀ frame e h o f =
+    reports-ran c p r words frame₀ words₀ frame words b l₀ l
+    (f ∙ sym (own-frame c (eqb (r .ending .number) 0) row frame₀ (sym e)) ∙ own-frame c (eqb (r .ending .number) 0) words frame₀ (sym e))
+    (ap (λ (own : Bool). cond own words words₀) (sym e)) h
+ran-as c false p r row words b l₀ l row₀ words₀ frame₀ frame e h o f =
+    reports-ran c p r row frame₀ words₀ frame words b l₀ l f (o ∙ ap (λ (own : Bool). cond own row words₀) (sym e)) h
 
--- and of one that runs over a row
-pub row-ran : (c : EngineCall) (f : Frame) (p : Played) (r : Ran) (ws frame₀ frame words b l₀ l : List ℕ) → false ≡ lent c → f ≡ frameFor c
-    → Reports p r ws b l₀ l → frame ≡ leave f (eqb (r .ending .number) 0) ws frame₀ → RanAs c p r frame₀ words frame words b l₀ l
-row-ran c f p r ws frame₀ frame words b l₀ l e g h k =
-    reports-ran c p r ws frame₀ words frame words b l₀ l (k ∙ ap (λ (f : Frame). leave f (eqb (r .ending .number) 0) ws frame₀) g)
-    (ap (λ (own : Bool). pick own ws words) e) h
+pub turns-by : (s : State) (i : ℕ) (xs row₀ words₀ b₀ l₀ : List ℕ) {x : StepAnswer} {row words b l : List ℕ} (a : Answer) (c : Call)
+    → c ≡ transferOf (s .transfer) .call → (l ≡ set l₀ i (codeOf c)) × (callOf (codeOf c) ≡ c) → a ≡ answerOf (getD xs i 0)
+    → Stepped s a x row₀ words₀ b₀ row words b → Turns s i xs row₀ words₀ b₀ l₀ x row words b l
+turns-by s i xs row₀ words₀ b₀ l₀ {x} {row} {words} {b} {l} a c d n h g = record {
+  step = subst (λ (y : Answer). Stepped s y x row₀ words₀ b₀ row words b) h g;
+  log = n .0 ∙ ap (λ (y : Call). set l₀ i (codeOf y)) d;
+  readable = subst (λ (y : Call). callOf (codeOf y) ≡ y) d (n .1);
+}
+
+-- the whole run: over a row with the frame that the call finds, within the budget
+pub run-ran : (c : EngineCall) (r : Remembered) (budget limit : ℕ) (xs frame₀ row₀ words₀ b₀ l₀ : List ℕ) (f : Frame) {x : Ran} {row words b l frame : List ℕ}
+    → f ≡ frameFor c → row₀ ≡ rowWith f frame₀ → take limit xs ≡ take budget xs
+    → Ends (lent c) (callTree c r row₀ words₀ b₀) limit xs row₀ words₀ l₀ x row words b l → frame ≡ leave f (eqb (x .ending .number) 0) row frame₀
+    → RanAs c (play (callTree c r (rowFor c frame₀) words₀ b₀) (within budget xs)) x frame₀ words₀ frame words b l₀ l
+run-ran c r budget limit xs frame₀ row₀ words₀ b₀ l₀ f {x} {row} {words} {b} {l} {frame} hf hr ht g h =
+    ran-as c (lent c) (play (callTree c r (rowFor c frame₀) words₀ b₀) (within budget xs)) x row words b l₀ l row₀ words₀ frame₀ frame refl
+    (subst (λ (as′ : List ℕ). Reports (play (callTree c r (rowFor c frame₀) words₀ b₀) (map answerOf as′)) x (cond (lent c) words row) b l₀ l) ht
+    (subst (λ (ws : List ℕ). Reports (play (callTree c r ws words₀ b₀) (rest limit xs 0)) x (cond (lent c) words row) b l₀ l)
+    (hr ∙ ap (λ (y : Frame). rowWith y frame₀) hf) (g .reports)))
+    (g .other) (h ∙ ap (λ (y : Frame). leave y (eqb (x .ending .number) 0) row frame₀) hf)
