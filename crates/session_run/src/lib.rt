@@ -81,7 +81,7 @@ fn next_at(acts: &[u32], at: usize) -> usize
 fn due(s: Session) -> Call
     ensures { λ r. ⌜ r ≡ dueNow s ⌝ }
 {
-    wire::due(s.state.started.launched.transfer)
+    engine::due(s.state)
 }
 
 // The transport call that is due goes over the line, and the session makes a step of its answer.

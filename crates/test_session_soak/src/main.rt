@@ -256,7 +256,8 @@ fn what_said(now: SessionAnswer) -> Said {
     let s = now.session;
     let reply = now.reply;
     let next = reply.next;
-    let remembered = s.state.remembered;
+    let state = s.state;
+    let remembered = engine::remembered(state);
     Said {
         next: next,
         open: session::open(s),

@@ -9,11 +9,12 @@ use Rattle.wire.specs.Wire.{Wire, Memory, done, ask, tell, Ending, ended, spent
 use Rattle.wire.specs.declared.Outcome.{Outcome}
 use Rattle.wire.specs.declared.Remembered.{Remembered}
 use Rattle.wire_numbers.specs.Results.{endingOf}
+use Rattle.wire_memap.specs.Laws.Doing.{rememberedOf}
 use Rattle.engine_calls.specs.Calls.{coreFrame, frameFor, leave, frameLeft}
 use Rattle.engine_calls.specs.declared.Frame.{Frame}
 use Rattle.engine_calls.specs.declared.Frame.the-variants as F
 use Rattle.engine.specs.Step.{memoryIn}
-use Rattle.engine.specs.Laws.Step.{Waits}
+use Rattle.engine.specs.Laws.State.{Waits}
 use Rattle.target.specs.declared.Target.{Target}
 use Rattle.target.specs.declared.Act.{Act}
 use Rattle.target_line.specs.Talk.{Talk, talk}
@@ -94,7 +95,7 @@ pub record Settles (s₀ : Session) (c : SessionCall) (lost : Bool) (m : Memory)
 pub settles-done : (s₀ : Session) (c : SessionCall) (lost : Bool) (m : Memory) (o : Outcome) (s : Session) (r : Reply) (lent : List ℕ)
     → Answers (kindOf c) lost (s₀ .frame) (done m o) s r lent → Settles s₀ c lost m (ended o) s lent
 settles-done s₀ c lost m o s r lent h = record {
-  stands = standing-is (isOpen (s .phase)) (opensAfter (isConnect c) lost false (succeeds (ended o))) (s .state .remembered) (m .remembered) (s .frame) (frameLeft
+  stands = standing-is (isOpen (s .phase)) (opensAfter (isConnect c) lost false (succeeds (ended o))) (rememberedOf (s .state .op)) (m .remembered) (s .frame) (frameLeft
       (engineCall c) (ended o) (m .words) (s₀ .frame))
       (ap isOpen (h .phase) ∙ phase-opens c lost (succeeds (ended o))) (ap (λ (x : Memory). x .remembered) (h .memory))
       (h .frame ∙ frame-kind c (succeeds (ended o)) (m .words) (s₀ .frame));
@@ -114,7 +115,7 @@ running-frame kind (tell m c w) f g = refl
 pub settles-spent : (s₀ : Session) (c : SessionCall) (lost : Bool) (w : Wire) (s : Session) (r : Reply) (lent : List ℕ) → Waits w
     → Answers (kindOf c) lost (s₀ .frame) w s r lent → Settles s₀ c lost (memoryIn w) spent s lent
 settles-spent s₀ c lost w s r lent g h = record {
-  stands = standing-is (isOpen (s .phase)) (opensAfter (isConnect c) lost true false) (s .state .remembered) (memoryIn w .remembered) (s .frame)
+  stands = standing-is (isOpen (s .phase)) (opensAfter (isConnect c) lost true false) (rememberedOf (s .state .op)) (memoryIn w .remembered) (s .frame)
       (frameLeft (engineCall c) spent (memoryIn w .words) (s₀ .frame))
       (ap isOpen (h .phase) ∙ running-closed (kindOf c) lost w g ∙ spent-closed (isConnect c) lost) (ap (λ (x : Memory). x .remembered) (h .memory))
       (h .frame ∙ running-frame (kindOf c) w (s₀ .frame) g ∙ leave-fails (frameFor (engineCall c)) (memoryIn w .words) (s₀ .frame));

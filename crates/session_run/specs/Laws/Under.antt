@@ -5,20 +5,14 @@ use mathlib.Core.List.{List}
 use mathlib.Core.Path.{_≡_, refl, sym, subst, _∙_}
 use native.Mathlib.Omega.{arith}
 use lib.ListN.{length}
-use Rattle.wire.specs.Wire.{Wire, Memory, done, ask, tell, follow, ended, spent}
-use Rattle.wire.specs.Laws.Flight.{flight}
+use Rattle.wire.specs.Wire.{Wire, done, ask, tell, follow, ended, spent}
+use Rattle.wire.specs.Laws.Flight.{transferOf}
 use Rattle.wire.specs.declared.Call.{Call}
 use Rattle.wire.specs.declared.Answer.{Answer}
-use Rattle.wire.specs.declared.Outcome.{Outcome}
-use Rattle.wire.specs.declared.Mode.{Mode}
-use Rattle.wire.specs.declared.Mode.the-variants as D
-use Rattle.wire.specs.declared.Transfer.{Transfer}
 use Rattle.wire_numbers.specs.declared.CallEnding.{CallEnding}
 use Rattle.wire_numbers.specs.declared.TransportCall.{TransportCall}
-use Rattle.wire.specs.Laws.Flight.{dueOf}
-use Rattle.engine.specs.Laws.State.{flightTree, stateTree}
+use Rattle.engine.specs.Laws.State.{stateTree, Waits, DueIn, state-due}
 use Rattle.engine.specs.Step.{nextOf, memoryIn}
-use Rattle.engine.specs.Laws.Step.{Waits, flies}
 use Rattle.engine.specs.declared.NextStep.{NextStep}
 use Rattle.engine.specs.declared.NextStep.the-variants as N
 use Rattle.target.specs.Line.{line}
@@ -41,19 +35,11 @@ use Rattle.session.specs.declared.Reply.{Reply}
 use Rattle.session_items.specs.History.{made, item}
 use Rattle.session_run.specs.Ran.{CallRuns}
 use Rattle.session_run.specs.Laws.Ran.{x₀, tree, heard, passed, was-refused, running-frame, settles-done, settles-spent}
-use Rattle.session_run.specs.Laws.Walk.{Walked, walk-start, walk-more, walk-done, walk-spent, dueIn}
+use Rattle.session_run.specs.Laws.Walk.{Walked, walk-start, walk-more, walk-done, walk-spent}
 
 -- the transport call that a session's call has due
 abbrev pub dueNow : Session → Call
-dueNow s = dueOf (s .state .started .launched .transfer .mode) (s .state .started .launched .transfer)
-
-flight-due : (d : Mode) (m : Memory) (t : Transfer) (k : Outcome → Wire) → dueIn (flight d m t k) (dueOf d t)
-flight-due D.Trying m t k = refl
-flight-due D.Aborting m t k = refl
-flight-due D.Raw m t k = refl
-
-state-due : (s : Session) (buf : List ℕ) → dueIn (flightTree (s .state) (s .row) buf) (dueNow s)
-state-due s buf = flight-due (s .state .started .launched .transfer .mode) _ (s .state .started .launched .transfer) _
+dueNow s = transferOf (s .state .transfer) .call
 
 running : (kind : Kind) (lost : Bool) (w : Wire) → Waits w → phaseIn kind lost w ≡ P.Running kind lost
 running kind lost (done m o) g = absurd g
@@ -109,7 +95,7 @@ module _ (s₀ : Session) (c : SessionCall) (budget : ℕ) (buf₀ : List ℕ) (
       let z : _≡_ {A = ℕ} 0 1 = cc in absurd (omega arith)
   under-more i acts s r t mem buf x s′ r′ buf′ n l (walking e w lost wk an) st =
       walking e (follow w A) (lost || lostBy w A)
-      (walk-more (budget - (i + 1)) acts t mem w (dueNow s) (subst (λ (v : Wire). dueIn v (dueNow s)) (sym (flies w (s .state) (s .row) buf here due)) (state-due s buf))
+      (walk-more (budget - (i + 1)) acts t mem w (dueNow s) (subst (λ (v : Wire). DueIn v (dueNow s)) (sym here) (state-due (s .state) (s .row) buf (subst Waits here due)))
       (subst (λ (j : ℕ). Walked i lost (tree s₀ c budget buf₀ acts₀ t₀ mem₀) (heard s₀ c budget buf₀ acts₀ t₀ mem₀) w
       (talk w j acts t mem)) less wk))
       (subst (λ (f : List ℕ). Answers (kindOf c) (lost || lostBy w A) f (follow w A) s′ r′ buf′) kept

@@ -13,7 +13,7 @@ use Rattle.target.specs.declared.Target.{Target}
 use Rattle.target.specs.declared.Act.{Act}
 use Rattle.target_line.specs.Talk.{Talk, talk, actNow, actsThen}
 use Rattle.engine.specs.Step.{memoryIn}
-use Rattle.engine.specs.Laws.Step.{Waits}
+use Rattle.engine.specs.Laws.State.{Waits, DueIn}
 use Rattle.session_phase.specs.Phase.{loss}
 use Rattle.session_rules.specs.Session.{lostIn}
 use Rattle.session.specs.Step.{lostBy}
@@ -31,20 +31,14 @@ pub record Walked (i : ℕ) (lost : Bool) (w₀ : Wire) (k₀ : Talk) (w : Wire)
 pub walk-start : (w : Wire) (k : Talk) → Walked 0 false w k w k
 walk-start w k = record { count = omega arith; memory = refl; ending = refl; losses = refl; target = refl; mem = refl }
 
--- the transport call that is due
-abbrev pub dueIn : Wire → Call → Type 0
-dueIn (done m o) c = ⊥
-dueIn (ask m d f) c = c ≡ d
-dueIn (tell m d w) c = c ≡ d
-
 module _ {i : ℕ} {lost : Bool} {w₀ : Wire} {k₀ : Talk} (n : ℕ) (acts : List Act) (t : Target) (mem : List ℕ) where
   -- one transport call more
-  pub walk-more : (w : Wire) (c : Call) → dueIn w c → Walked i lost w₀ k₀ w (talk w (suc n) acts t mem)
+  pub walk-more : (w : Wire) (c : Call) → DueIn w c → Walked i lost w₀ k₀ w (talk w (suc n) acts t mem)
       → Walked (i + 1) (lost || lostBy w (line t mem c (actNow acts) .answer)) w₀ k₀ (follow w (line t mem c (actNow acts) .answer))
       (talk (follow w (line t mem c (actNow acts) .answer)) n (actsThen acts) (line t mem c (actNow acts) .target) (line t mem c (actNow acts) .mem))
   unfolding talk play lostIn
   walk-more (done m o) c d h = absurd d
-  walk-more (ask m e f) c d h = rw d (record {
+  walk-more (ask m e f) c d h = rw (sym d) (record {
     count = omega (arith, h .count);
     memory = h .memory;
     ending = h .ending;
@@ -52,7 +46,7 @@ module _ {i : ℕ} {lost : Bool} {w₀ : Wire} {k₀ : Talk} (n : ℕ) (acts : L
     target = h .target;
     mem = h .mem;
   })
-  walk-more (tell m e w) c d h = rw d (record {
+  walk-more (tell m e w) c d h = rw (sym d) (record {
     count = omega (arith, h .count);
     memory = h .memory;
     ending = h .ending;
