@@ -293,7 +293,8 @@ pub fn awaits(s: State) -> bool
 {
     let t = s.transfer;
     let c = s.call;
-    if c[STATUS] == 0 {
+    let status = c[STATUS];
+    if status == 0 {
         return !wire::is_aborting(&t);
     }
     false

@@ -292,8 +292,9 @@ pub fn begin(t: &mut [u32; 7], request: u32, word: u32)
 fn once(t: &mut [u32; 7], kind: u32, byte: u32, other: u32, word: u32)
     ensures { λ _. ⌜ now (t .exit) ≡ begunRaw kind byte other word (now (t .entry)) ⌝ }
 {
+    let only = 1;
     t[MODE] = RAW;
-    t[TRIES] = 1;
+    t[TRIES] = only;
     t[KIND] = kind;
     t[BYTE] = byte;
     t[WORD] = word;
@@ -338,8 +339,9 @@ pub fn begin_raw(t: &mut [u32; 7], c: Call)
 fn abort(t: &mut [u32; 7], error: u32, ack: u32) -> Went
     ensures { λ r. ⌜ (r ≡ Again) × (now (t .exit) ≡ aborts error ack (now (t .entry))) ⌝ }
 {
+    let made = 1;
     t[MODE] = ABORTING;
-    t[TRIES] = 1;
+    t[TRIES] = made;
     t[KIND] = TRANSFER;
     t[BYTE] = 0;
     t[WORD] = 0x1E;

@@ -268,8 +268,9 @@ fn value_after(t: &mut [u32; 7], m: &mut [u32; 12], v: u32, row: &mut [u32]) -> 
         5 => direct(t, m, UNIT, RDBUFF_READ, 0),
         6 => pull_on(t, m, minus(n, 1)),
         7 => {
+            let more = minus(n, 1);
             place_word(row, minus(last, n), v);
-            pull_on(t, m, minus(n, 1))
+            pull_on(t, m, more)
         }
         8 => {
             place_word(row, last, v);

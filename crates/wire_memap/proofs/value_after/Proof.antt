@@ -21,6 +21,6 @@ value-after-spec =
     (λ c l f. let a = c .before .before .before .before .before .before .before .before .args in goes-of (λ b k. simp (c .before .before .before .match .keys6)) (direct-on 1 14 0 (a .t .now) (a .m .now) _ (omega arith) (c .direct2 .ensures) f))
     (λ c l f. goes-of (λ b k. simp (c .before .before .before .before .match .keys7) (simp (c .before .minus .ensures))) (c .pull-on .ensures _ f))
     (λ c. search needs)
-    (λ c l f. goes-of (λ b k. simp (c .before .before .before .before .before .before .before .before .before .match .keys8) (simp (c .before .before .before .before .before .before .place-word .ensures, c .before .before .before .before .before .before .before .minus2 .ensures, c .before .minus3 .ensures))) (c .pull-on2 .ensures _ f))
+    (λ c l f. goes-of (λ b k. simp (c .before .before .before .before .before .before .before .before .before .match .keys8) (simp (c .before .before .before .before .before .place-word .ensures, c .before .before .before .before .before .before .minus3 .ensures, c .before .before .before .before .before .before .before .before .minus2 .ensures))) (c .pull-on2 .ensures _ f))
     (λ c. search needs)
     (λ c l f. let a = c .before .before .before .before .before .before .before .before .before .before .args in goes-of (value-pushes (a .m .now) (a .row .now) (a .v) _ (c .before .before .before .before .before .match .rest) (c .before .before .minus4 .ensures)) (c .push-on .ensures f)))
