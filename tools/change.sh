@@ -34,8 +34,7 @@ proofs() { git diff --no-renames --name-only --diff-filter="$1" "$base" "$rev" |
 lines() { grep -E "^[$1]" | grep -vE '^(\+\+\+|---) ' | grep -vcE '^[+-][[:space:]]*(//|--|#|$)' || true; }
 
 git diff --no-renames --name-only "$base" "$rev" | while read -r file; do
-    if git cat-file -e "$rev:$file" 2>/dev/null; then at=$rev; else at=$base; fi
-    echo "$(git show "$at:$file" | kind "$file") $(changed "$file" | lines +) $(changed "$file" | lines -) $file"
+    echo "$(kind "$file") $(changed "$file" | lines +) $(changed "$file" | lines -) $file"
 done >"$room/files"
 
 awk '{ n[$1]++; a[$1] += $2; r[$1] += $3 }

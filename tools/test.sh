@@ -1,6 +1,7 @@
 #!/bin/sh
-# All tests: the Rattle gate (every crate proved, every must-fail edit refused, every program's output as stored), `dapscript` on
-# the README's script and on one that is a byte too long, then fresh scripts compared with the unchanged Rust.
+# All tests: the Rattle gate (every crate proved, every must-fail edit refused, every program's output as stored), the tree in the form
+# of `rt fmt`, READING's table of believed files, `dapscript` on the README's script and on one that is a byte too long, then fresh
+# scripts compared with the unchanged Rust.
 # Where rustc or its source is not at hand, a line says that the comparison was skipped; with CI=true it counts as failed.
 # The last line is 'N passed, 0 failed', and the exit status is 0 only then.
 set -u
@@ -19,16 +20,26 @@ if [ -z "$passed" ]; then
     exit 1
 fi
 
+# One test: a command succeeds.
+holds() { # WHAT COMMAND..
+    what=$1
+    shift
+    if "$@"; then
+        echo "passed: $what"
+        passed=$((passed + 1))
+    else
+        echo "FAILED: $what"
+        failed=$((failed + 1))
+    fi
+}
+holds "whoever formats the project (rt fmt) sees no change" rt fmt --check
+holds "docs/READING.md lists the believed files" tools/believed.sh
+
 # One test: `dapscript` prints exactly this text for the script on standard input.
 prints() { # WHAT TEXT
     target/bin/dapscript >"$room/printed"
-    if printf '%s\n' "$2" | cmp "$room/printed" -; then
-        echo "dapscript prints what it must for $1"
-        passed=$((passed + 1))
-    else
-        echo "dapscript does NOT print what it must for $1"
-        failed=$((failed + 1))
-    fi
+    printf '%s\n' "$2" >"$room/expected"
+    holds "dapscript prints what it must for $1" cmp "$room/printed" "$room/expected"
 }
 prints "the README's script" "1 T 8 00000000
 2 T 1 23000012

@@ -402,7 +402,8 @@ fn put_registers(row: &mut [u32], r0: u32, r1: u32, r2: u32, r3: u32, sp: u32, l
 
 // The row and the buffer after a change.
 fn apply(c: Change, row: &mut [u32], buf: &mut [u8])
-    ensures { λ _. ⌜ (now (row .exit) ≡ wordsAfter c (now (row .entry)) (now (buf .entry))) × (now (buf .exit) ≡ bufAfter c (now (row .entry)) (now (buf .entry))) ⌝ }
+    ensures { λ _. ⌜ (now (row .exit) ≡ wordsAfter c (now (row .entry)) (now (buf .entry)))
+        × (now (buf .exit) ≡ bufAfter c (now (row .entry)) (now (buf .entry))) ⌝ }
 {
     match c {
         Change::Nothing => {}

@@ -22,6 +22,7 @@ swdLineReset = do
 abbrev pub jtagToSwd : Job
 jtagToSwd = transport (T.Sequence P.JtagToSwd)
 
+-- a target that is dormant already ignores it
 abbrev pub swdToDormant : Job
 swdToDormant = transport (T.Sequence P.SwdToDormant)
 
@@ -57,6 +58,7 @@ noTarget v = eqb v 0 || eqb v 0xFFFFFFFF
 abbrev pub accepted : ℕ → Job
 accepted dpidr = cond (noTarget dpidr) (fail E.NoTarget) (return dpidr)
 
+-- DPIDR has to be the first transfer after a line reset
 abbrev pub readDpidr : Job
 readDpidr = do
   dpidr ← dpRead DPIDR
@@ -89,6 +91,7 @@ setUp forget dpidr = do
   powerUp
   return dpidr
 
+-- By way of dormant, whatever the target is in: on a link that is live already every other connect would fall out of step without it.
 abbrev pub connectMultidrop : ℕ → Job
 connectMultidrop targetsel = do
   transport T.Connect
@@ -100,6 +103,9 @@ connectMultidrop targetsel = do
   dpidr ← readDpidr
   setUp C.Forget dpidr
 
+-- Without TARGETSEL every debug port on the wire answers, and a write reaches all of them: on an RP2040 the Rescue DP too, to which
+-- CDBGPWRUPREQ means a reset of the chip; its cores answer no more until nRESET. So the probe only reads, and call 3 is for a port that
+-- is alone on its wire.
 abbrev pub probeSwd : Job
 probeSwd = do
   transport T.Connect
@@ -114,12 +120,13 @@ connectSwd = do
   dpidr ← probeSwd
   setUp C.New dpidr
 
--- output 0 on N_RESET, bit 7, alone
+-- output 0 on N_RESET, bit 7, alone: for a target whose program has wedged its debug port
 abbrev pub resetPulse : ℕ → Job
 resetPulse wait = do
   transport (T.Pins 0x00 0x80 wait)
   return 0
 
+-- to another target of a link that is live since a whole connect: no way by dormant
 abbrev pub reselect : ℕ → Job
 reselect targetsel = do
   swdLineReset

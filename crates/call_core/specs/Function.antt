@@ -53,7 +53,8 @@ romFuncLookup first second = do
   ptrs ← readWord ROM-TABLE-PTRS
   lookFrom (first + 0x100 * second) (ptrs % 0x10000) ENTRIES
 
--- the registers that a function may change, in the order of a frame (000: CallFrame)
+-- The registers that a function may change, in the order of a frame (000: CallFrame). They are saved and restored, so that a debugger
+-- that has set PC before it finds it there after it.
 abbrev pub clobbered : List ℕ
 clobbered = R0 ∷ 1 ∷ 2 ∷ 3 ∷ SP ∷ LR ∷ PC ∷ XPSR ∷ []
 
@@ -78,7 +79,9 @@ writeRegs base (suc n) = do
   writeRowReg (getD clobbered (8 - suc n) 0) (base + (8 - suc n))
   writeRegs base n
 
--- at most n reads of DHCSR, until the core runs
+-- At most n reads of DHCSR, until the core runs. S_HALT may still stand for a moment after C_HALT is cleared, and a wait for the halt
+-- would take that for the end of a function that never ran. A short one may be back at its BKPT before S_HALT is seen clear, so n is
+-- small and its end is no error: the wait for the halt follows.
 unfoldable pub lookRunning : ℕ → Job
 lookRunning zero = return 0
 lookRunning (suc n) = do

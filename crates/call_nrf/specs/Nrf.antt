@@ -55,7 +55,7 @@ pollErased (suc n) = do
   status ← apRead nrf52.CTRLAP-ERASEALLSTATUS
   cond (eqb (status % 2) 0) (softReset true) (pollErased n)
 
--- the mass erase by the CTRL-AP at `ap`
+-- The mass erase by the CTRL-AP at `ap`, which is reached even where APPROTECT blocks memory: there is no other way past it.
 abbrev pub eraseAll : ℕ → ℕ → Job
 eraseAll ap polls = do
   setApsel ap
@@ -104,6 +104,7 @@ runs settle stop len (suc left) zero = do
   settle
   runs settle stop len left (tarRun (stop - 4 * suc left) (suc left) - 1)
 
+-- the flash only clears bits, so the caller erases it first
 abbrev pub nrf52Program : ℕ → ℕ → ℕ → Job
 nrf52Program addr words polls = programmable addr words (do
   writeWord nrf52.NVMC-CONFIG nrf52.NVMC-CONFIG-WEN
@@ -123,6 +124,7 @@ nrf54EraseAll polls = eraseAll nrf54.CTRL-AP polls
 abbrev pub rramcWait : ℕ → Job
 rramcWait polls = waitReady nrf54.RRAMC-READY polls
 
+-- this memory is overwritten as it is, by way of a buffer
 abbrev pub nrf54Program : ℕ → ℕ → ℕ → Job
 nrf54Program addr words polls = programmable addr words (do
   writeWord nrf54.RRAMC-CONFIG nrf54.RRAMC-CONFIG-WEN

@@ -617,7 +617,8 @@ fn enable(chip: Chip, p: Program) -> Asks
 
 // A program call: refused, over at once, or begun.
 fn program_on(chip: Chip, addr: u32, words: usize, polls: u32) -> Asks
-    ensures { λ r. ⌜ programmable addr words (enabling chip (record { stop = addr + 4 * words; len = words; left = words; polls = polls })) ≡ asks (r .change) (r .next) (nrfAfter (r .at)) ⌝ }
+    ensures { λ r. ⌜ programmable addr words (enabling chip (record { stop = addr + 4 * words; len = words; left = words; polls = polls }))
+        ≡ asks (r .change) (r .next) (nrfAfter (r .at)) ⌝ }
 {
     if words == 0 {
         return ended(Outcome::Value(0));

@@ -220,7 +220,9 @@ fn put_performed(
     buf: &[u8],
 ) -> usize
     requires { ⌜ (length (now log) ≤ 9361) × (length (now frame) ≡ 8) × (length (now words) < 65536) × (length (now buf) < 65536) ⌝ }
-    ensures { λ r. ⌜ Puts (now (out .entry)) 0 (runLines (now (log .entry)) e (shownOf e b) (cond (isFrame b) (now (frame .entry)) (now (words .entry))) (now (buf .entry))) (now (out .exit)) r × (r ≤ 1114112) ⌝ }
+    ensures { λ r. ⌜ Puts (now (out .entry)) 0
+        (runLines (now (log .entry)) e (shownOf e b) (cond (isFrame b) (now (frame .entry)) (now (words .entry))) (now (buf .entry)))
+        (now (out .exit)) r × (r ≤ 1114112) ⌝ }
 {
     let s = shown_of(e, b);
     if is_frame(b) {
@@ -239,7 +241,8 @@ fn perform(
     out: &mut [u8],
 ) -> usize
     requires { ⌜ (length (now answers) ≤ 9361) × (length (now words) < 65536) × (length (now buf) < 65536) ⌝ }
-    ensures { λ r. ⌜ Puts (now (out .entry)) 0 (performed c b (now (words .entry)) (now (buf .entry)) (now (answers .entry))) (now (out .exit)) r × (r ≤ 1114112) ⌝ }
+    ensures { λ r. ⌜ Puts (now (out .entry)) 0 (performed c b (now (words .entry)) (now (buf .entry)) (now (answers .entry))) (now (out .exit)) r
+        × (r ≤ 1114112) ⌝ }
 {
     let mut log = zero_answers();
     let mut frame = frame_in(words);
@@ -321,7 +324,9 @@ fn lend(
     out: &mut [u8],
 ) -> usize
     requires { ⌜ Zeros b (now a) (now words) (now buf) × (length (now answers) ≤ 9361) × (length (now words) < 65536) × (length (now buf) < 65536) ⌝ }
-    ensures { λ r. ⌜ Puts (now (out .entry)) 0 (performed c b (wordsOf b (now (a .entry))) (bytesOf b (now (a .entry))) (now (answers .entry))) (now (out .exit)) r × (r ≤ 1114112) ⌝ }
+    ensures { λ r. ⌜ Puts (now (out .entry)) 0
+        (performed c b (wordsOf b (now (a .entry))) (bytesOf b (now (a .entry))) (now (answers .entry)))
+        (now (out .exit)) r × (r ≤ 1114112) ⌝ }
 {
     fill(b, a, words, buf);
     perform(c, b, answers, words, buf, out)
@@ -330,7 +335,9 @@ fn lend(
 // A call with its arguments and answers.
 fn asked(c: EngineCall, b: Buffer, a: &[u8], answers: &[u64], out: &mut [u8]) -> usize
     requires { ⌜ (length (now a) ≤ 65536) × (length (now answers) ≤ 9361) ⌝ }
-    ensures { λ r. ⌜ Puts (now (out .entry)) 0 (performed c b (wordsOf b (now (a .entry))) (bytesOf b (now (a .entry))) (now (answers .entry))) (now (out .exit)) r × (r ≤ 1114112) ⌝ }
+    ensures { λ r. ⌜ Puts (now (out .entry)) 0
+        (performed c b (wordsOf b (now (a .entry))) (bytesOf b (now (a .entry))) (now (answers .entry)))
+        (now (out .exit)) r × (r ≤ 1114112) ⌝ }
 {
     let mut words = zero_words();
     let mut buf = zero_bytes();
@@ -379,7 +386,8 @@ fn put_script(input: &[u8], out: &mut [u8]) -> usize
 
 // The whole output of a script, as far as `out` reaches; answers its length.
 pub fn dapscript(input: &[u8], out: &mut [u8]) -> usize
-    ensures { λ r. ⌜ (r ≡ length (outputOf (now (input .entry)))) × (now (out .exit) ≡ sets (now (out .entry)) 0 (outputOf (now (input .entry)))) × (r ≤ 1114112) ⌝ }
+    ensures { λ r. ⌜ (r ≡ length (outputOf (now (input .entry)))) × (now (out .exit) ≡ sets (now (out .entry)) 0 (outputOf (now (input .entry))))
+        × (r ≤ 1114112) ⌝ }
 {
     if well_formed(input) {
         return put_script(input, out);

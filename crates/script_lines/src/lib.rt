@@ -92,7 +92,8 @@ fn wide(x: u8) -> u32
 
 fn put_hex_bytes(out: &mut [u8], at: usize, bytes: &[u8]) -> usize
     requires { ⌜ at + 2 * length (now bytes) ≤ 2 ^ 61 ⌝ }
-    ensures { λ r. ⌜ Puts (now (out .entry)) at (together hexByte (now (bytes .entry))) (now (out .exit)) r × (r ≡ at + 2 * length (now (bytes .entry))) ⌝ }
+    ensures { λ r. ⌜ Puts (now (out .entry)) at (together hexByte (now (bytes .entry))) (now (out .exit)) r
+        × (r ≡ at + 2 * length (now (bytes .entry))) ⌝ }
 {
     let mut p = at;
     let mut i = 0;
@@ -105,7 +106,8 @@ fn put_hex_bytes(out: &mut [u8], at: usize, bytes: &[u8]) -> usize
 
 fn put_hex_words(out: &mut [u8], at: usize, words: &[u32]) -> usize
     requires { ⌜ at + 8 * length (now words) ≤ 2 ^ 61 ⌝ }
-    ensures { λ r. ⌜ Puts (now (out .entry)) at (together hexWord (now (words .entry))) (now (out .exit)) r × (r ≡ at + 8 * length (now (words .entry))) ⌝ }
+    ensures { λ r. ⌜ Puts (now (out .entry)) at (together hexWord (now (words .entry))) (now (out .exit)) r
+        × (r ≡ at + 8 * length (now (words .entry))) ⌝ }
 {
     let mut p = at;
     let mut i = 0;
@@ -138,7 +140,8 @@ fn put_pins(out: &mut [u8], at: usize, output: u8, select: u8, wait: u32) -> usi
 // A letter, a number of bits and the bytes handed over.
 fn put_bits(out: &mut [u8], at: usize, letter: u8, bits: u8, bytes: &[u8]) -> usize
     requires { ⌜ at + 2 * length (now bytes) ≤ 2 ^ 60 ⌝ }
-    ensures { λ r. ⌜ Puts (now (out .entry)) at (bitsText letter bits (now (bytes .entry))) (now (out .exit)) r × (r ≤ at + 13 + 2 * length (now (bytes .entry))) ⌝ }
+    ensures { λ r. ⌜ Puts (now (out .entry)) at (bitsText letter bits (now (bytes .entry))) (now (out .exit)) r
+        × (r ≤ at + 13 + 2 * length (now (bytes .entry))) ⌝ }
 {
     let p = put(out, at, letter);
     let p2 = put(out, p, b' ');
@@ -196,7 +199,8 @@ fn put_line(out: &mut [u8], at: usize, number: u32, c: Call) -> usize
 // A line for each transport call of a log.
 fn put_calls(out: &mut [u8], log: &[u64]) -> usize
     requires { ⌜ length (now log) < 2 ^ 32 ⌝ }
-    ensures { λ r. ⌜ Puts (now (out .entry)) 0 (callLines 1 (map callOf (now (log .entry)))) (now (out .exit)) r × (r ≤ 57 * length (now (log .entry))) ⌝ }
+    ensures { λ r. ⌜ Puts (now (out .entry)) 0 (callLines 1 (map callOf (now (log .entry)))) (now (out .exit)) r
+        × (r ≤ 57 * length (now (log .entry))) ⌝ }
 {
     let mut p = 0;
     let mut i = 0;
@@ -231,7 +235,8 @@ fn put_data_start(out: &mut [u8], at: usize, n: usize) -> usize
 
 fn put_bytes_line(out: &mut [u8], at: usize, bytes: &[u8]) -> usize
     requires { ⌜ at + 2 * length (now bytes) ≤ 2 ^ 60 ⌝ }
-    ensures { λ r. ⌜ Puts (now (out .entry)) at (dataLine hexByte (now (bytes .entry))) (now (out .exit)) r × (r ≤ at + 3 + 2 * length (now (bytes .entry))) ⌝ }
+    ensures { λ r. ⌜ Puts (now (out .entry)) at (dataLine hexByte (now (bytes .entry))) (now (out .exit)) r
+        × (r ≤ at + 3 + 2 * length (now (bytes .entry))) ⌝ }
 {
     let p = put_data_start(out, at, bytes.len());
     let p2 = put_hex_bytes(out, p, bytes);
@@ -240,7 +245,8 @@ fn put_bytes_line(out: &mut [u8], at: usize, bytes: &[u8]) -> usize
 
 fn put_words_line(out: &mut [u8], at: usize, words: &[u32]) -> usize
     requires { ⌜ at + 8 * length (now words) ≤ 2 ^ 60 ⌝ }
-    ensures { λ r. ⌜ Puts (now (out .entry)) at (dataLine hexWord (now (words .entry))) (now (out .exit)) r × (r ≤ at + 3 + 8 * length (now (words .entry))) ⌝ }
+    ensures { λ r. ⌜ Puts (now (out .entry)) at (dataLine hexWord (now (words .entry))) (now (out .exit)) r
+        × (r ≤ at + 3 + 8 * length (now (words .entry))) ⌝ }
 {
     let p = put_data_start(out, at, words.len());
     let p2 = put_hex_words(out, p, words);

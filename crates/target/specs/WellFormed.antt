@@ -1,6 +1,6 @@
 -- The targets that 01 and 02 speak of ("The model target"; 02, c): the size field of CSW is 2, 10 to 32 bits of TAR are incremented,
 -- base and size of the memory are multiples of 4 and its end is at most 2^32. All else is arbitrary. A transport call keeps it
--- (WellFormedLaws).
+-- (`Laws/WellFormed.antt`).
 use mathlib.Core.Path.{_≡_}
 use mathlib.Core.List.{List}
 use Prim.Native.Nat.{ℕ, _+_, _%_, _≤_, _<_}

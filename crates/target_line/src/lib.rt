@@ -55,7 +55,8 @@ fn answered(d: Done) -> Delivered
 
 // One transfer that reaches the target.
 fn transfer_to(t: Target, request: u8, word: u32, mem: &mut [u8]) -> Delivered
-    ensures { λ r. ⌜ (r ≡ given (transfer t (now (mem .entry)) request word)) × (now (mem .exit) ≡ transfer t (now (mem .entry)) request word .mem) ⌝ }
+    ensures { λ r. ⌜ (r ≡ given (transfer t (now (mem .entry)) request word))
+        × (now (mem .exit) ≡ transfer t (now (mem .entry)) request word .mem) ⌝ }
 {
     let reg = target::decode(request, t.select);
     if is_barred(reg, t.sticky) {

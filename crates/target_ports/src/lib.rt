@@ -188,7 +188,8 @@ fn drw_read(t: Target, mem: &[u8]) -> Done
 
 // A DRW write.
 fn drw_write(t: Target, word: u32, mem: &mut [u8]) -> Done
-    ensures { λ r. ⌜ (r ≡ reachAp ApRegister.DrwWrite t (now (mem .entry)) word) × (now (mem .exit) ≡ memoryAfter ApRegister.DrwWrite t (now (mem .entry)) word) ⌝ }
+    ensures { λ r. ⌜ (r ≡ reachAp ApRegister.DrwWrite t (now (mem .entry)) word)
+        × (now (mem .exit) ≡ memoryAfter ApRegister.DrwWrite t (now (mem .entry)) word) ⌝ }
 {
     let next = advance(t);
     if target::store_word(t, t.tar / 4 * 4, word, mem) {

@@ -14,7 +14,9 @@ use Rattle.wire.specs.declared.Outcome.the-variants.{Value, Failed}
 use Rattle.wire.specs.declared.ArmError.{ArmError}
 use Rattle.wire.specs.declared.ArmError.the-variants as E
 
--- ABORT with STKCMPCLR, STKERRCLR, WDERRCLR and ORUNERRCLR, and then the error
+-- A FAULT sets a sticky bit under which every further access to an access port faults too: one read of memory that is not there would
+-- spoil all that follows. ABORT can be written whatever stands, so it is sent once: STKCMPCLR, STKERRCLR, WDERRCLR and ORUNERRCLR,
+-- and then the error.
 abbrev pub clearStickyErrors : Memory → ArmError → (Outcome → Wire) → Wire
 clearStickyErrors m e k = tell m (C.Transfer 0 0x1E) (k (Failed e))
 

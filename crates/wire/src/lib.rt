@@ -319,7 +319,9 @@ fn pattern_no(p: Pattern) -> u32
 
 // A transport call that is made once, with no ABORT after an error.
 pub fn begin_raw(t: &mut [u32; 7], c: Call)
-    ensures { λ _. ⌜ (Sized (now (t .entry)) → ((m : Memory) (k : Outcome → Wire) → raw m c k ≡ transferTree m (transferOf (now (t .exit))) k) × Sized (now (t .exit)) × Counted (now (t .exit))) ⌝ }
+    ensures { λ _. ⌜ (Sized (now (t .entry))
+        → ((m : Memory) (k : Outcome → Wire) → raw m c k ≡ transferTree m (transferOf (now (t .exit))) k)
+        × Sized (now (t .exit)) × Counted (now (t .exit))) ⌝ }
 {
     match c {
         Call::Transfer { request, word } => once(t, TRANSFER, wide(request), 0, word),

@@ -16,7 +16,7 @@ readWord addr = do
   apWrite TAR addr
   apRead DRW
 
--- reading RDBUFF waits until what was posted is done
+-- A write is posted: its own answer comes before it is done. Reading RDBUFF waits until it is, so that its error is this call's.
 abbrev pub flush : Action
 flush = do
   dpRead RDBUFF

@@ -206,7 +206,8 @@ fn pull_on(t: &mut [u32; 7], m: &mut [u32; 12], more: u32)
 
 // The next access of a run of writes: DRW while `more` words are to go, and then RDBUFF.
 fn push_on(t: &mut [u32; 7], m: &mut [u32; 12], more: u32, row: &[u32])
-    ensures { λ _. ⌜ BegunAt (push (getD (now (m .entry)) 2 0) more) (now (row .entry)) (now (t .entry)) (now (m .entry)) (now (t .exit)) (now (m .exit)) ⌝ }
+    ensures { λ _. ⌜ BegunAt (push (getD (now (m .entry)) 2 0) more) (now (row .entry))
+        (now (t .entry)) (now (m .entry)) (now (t .exit)) (now (m .exit)) ⌝ }
 {
     if more == 0 {
         direct(t, m, UNIT, RDBUFF_READ, 0);
@@ -219,7 +220,8 @@ fn push_on(t: &mut [u32; 7], m: &mut [u32; 12], more: u32, row: &[u32])
 
 // The first data access of a task.
 fn data_on(t: &mut [u32; 7], m: &mut [u32; 12], row: &[u32]) -> Went
-    ensures { λ r. ⌜ (Fits (now (t .entry)) (now (m .entry)) → Goes (dataTree (now (m .entry)) (now (row .entry))) r (now (t .exit)) (now (m .exit)) (now (row .entry))) ⌝ }
+    ensures { λ r. ⌜ (Fits (now (t .entry)) (now (m .entry))
+        → Goes (dataTree (now (m .entry)) (now (row .entry))) r (now (t .exit)) (now (m .exit)) (now (row .entry))) ⌝ }
 {
     let kind = m[TASK];
     let n = m[LEFT];
@@ -254,7 +256,8 @@ fn tar_on(t: &mut [u32; 7], m: &mut [u32; 12])
 
 // What an operation does with the value of its access, which is not SELECT's.
 fn value_after(t: &mut [u32; 7], m: &mut [u32; 12], v: u32, row: &mut [u32]) -> Went
-    ensures { λ r. ⌜ (getD (now (m .entry)) 0 0 < 16 → Fits (now (t .entry)) (now (m .entry)) → Goes (valueTree (now (m .entry)) v (now (row .entry))) r (now (t .exit)) (now (m .exit)) (now (row .exit))) ⌝ }
+    ensures { λ r. ⌜ (getD (now (m .entry)) 0 0 < 16 → Fits (now (t .entry)) (now (m .entry))
+        → Goes (valueTree (now (m .entry)) v (now (row .entry))) r (now (t .exit)) (now (m .exit)) (now (row .exit))) ⌝ }
 {
     let phase = m[PHASE];
     let n = m[LEFT];
@@ -283,7 +286,8 @@ fn value_after(t: &mut [u32; 7], m: &mut [u32; 12], v: u32, row: &mut [u32]) -> 
 
 // SELECT is written: the access's own transfer is next.
 fn selected(t: &mut [u32; 7], m: &mut [u32; 12])
-    ensures { λ _. ⌜ (now (t .exit) ≡ begun (getD (now (m .entry)) 6 0) (getD (now (m .entry)) 7 0) (now (t .entry))) × (now (m .exit) ≡ selectStands (now (m .entry))) ⌝ }
+    ensures { λ _. ⌜ (now (t .exit) ≡ begun (getD (now (m .entry)) 6 0) (getD (now (m .entry)) 7 0) (now (t .entry)))
+        × (now (m .exit) ≡ selectStands (now (m .entry))) ⌝ }
 {
     let select = m[WANT];
     let phase = m[PHASE];
@@ -296,7 +300,8 @@ fn selected(t: &mut [u32; 7], m: &mut [u32; 12])
 
 // What an operation in flight does with the outcome of its transport call; an error ends it.
 fn op_ended(t: &mut [u32; 7], m: &mut [u32; 12], o: Outcome, row: &mut [u32]) -> Went
-    ensures { λ r. ⌜ (Fits (now (t .entry)) (now (m .entry)) → Goes (endedTree (now (m .entry)) o (now (row .entry))) r (now (t .exit)) (now (m .exit)) (now (row .exit))) ⌝ }
+    ensures { λ r. ⌜ (Fits (now (t .entry)) (now (m .entry))
+        → Goes (endedTree (now (m .entry)) o (now (row .entry))) r (now (t .exit)) (now (m .exit)) (now (row .exit))) ⌝ }
 {
     match o {
         Outcome::Value(v) => {
@@ -312,7 +317,8 @@ fn op_ended(t: &mut [u32; 7], m: &mut [u32; 12], o: Outcome, row: &mut [u32]) ->
 
 // What an operation in flight does with an answer.
 pub fn op_step(t: &mut [u32; 7], m: &mut [u32; 12], a: Answer, row: &mut [u32]) -> Went
-    ensures { λ r. ⌜ (Fits (now (t .entry)) (now (m .entry)) → Goes (stepTree (now (t .entry)) (now (m .entry)) a (now (row .entry))) r (now (t .exit)) (now (m .exit)) (now (row .exit))) ⌝ }
+    ensures { λ r. ⌜ (Fits (now (t .entry)) (now (m .entry))
+        → Goes (stepTree (now (t .entry)) (now (m .entry)) a (now (row .entry))) r (now (t .exit)) (now (m .exit)) (now (row .exit))) ⌝ }
 {
     match wire::transfer_step(t, a) {
         wire::Went::Again => Went::Moving,
@@ -342,7 +348,8 @@ fn task_start(
     n: u32,
     last: u32,
 )
-    ensures { λ _. ⌜ Begun (ensuringTask (record { kind = kindOf kind; addr = addr; word = word; last = last }) n) (now (t .entry)) (now (m .entry)) (now (t .exit)) (now (m .exit)) ⌝ }
+    ensures { λ _. ⌜ Begun (ensuringTask (record { kind = kindOf kind; addr = addr; word = word; last = last }) n)
+        (now (t .entry)) (now (m .entry)) (now (t .exit)) (now (m .exit)) ⌝ }
 {
     m[TASK] = kind;
     m[ADDR] = addr;

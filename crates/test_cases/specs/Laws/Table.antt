@@ -1,5 +1,5 @@
 -- 01's cases marked P as one table, proved of the definitions: a field a case, in 01's order. `Given.antt` has the calls, answers
--- and targets that it speaks of, `ConnectLaws.antt` the proof of the connects. Each holds for every value read, the connects for
+-- and targets that it speaks of, `Connect.antt` the proof of the connects. Each holds for every value read, the connects for
 -- every target that meets 01's conditions, sticky or not, at every budget that suffices.
 use Prim.Native.Nat.{ℕ, _≤_}
 use mathlib.Core.List.{List, [], _∷_}

@@ -1,4 +1,4 @@
--- Each kind has its number in the upper bits, and what is packed below it reads back (`LogLaws`).
+-- Each kind has its number in the upper bits, and what is packed below it reads back (`Laws/Log.antt`).
 use native.Mathlib.Omega.{arith}
 use mathlib.Core.Path.{refl}
 use Rattle.wire_numbers.specs.Laws.Log.{reads-transfer, reads-sequence, reads-pins, reads-bits}
