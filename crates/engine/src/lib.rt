@@ -4,7 +4,10 @@ ghost use mathlib.Core.Bool.{false};
 ghost use mathlib.Core.List.{List};
 ghost use mathlib.Core.Path.{_≡_};
 ghost use Prim.Native.Nat.{ℕ};
-ghost use Rattle.wire.specs.Laws.Flight.{transferOf};
+ghost use lib.Dec.{eqb};
+ghost use lib.ListN.{getD};
+ghost use Rattle.wire.specs.Laws.Flight.{outcomeOf, transferOf};
+ghost use Rattle.wire_numbers.specs.Results.{resultOf};
 ghost use Rattle.wire_memap.specs.Laws.Doing.{rememberedOf};
 ghost use Rattle.call.specs.Change.{fresh};
 ghost use Rattle.engine_calls.specs.Calls.{lent, callTree};
@@ -326,4 +329,18 @@ pub fn over_row(s: State) -> State
         op: m,
         call: c,
     }
+}
+
+// Whether the call is under way.
+pub fn is_running(c: &[u32; 10]) -> bool
+    ensures { λ r. ⌜ r ≡ eqb (getD (now (c .entry)) 6 0) 0 ⌝ }
+{
+    c[STATUS] == 0
+}
+
+// How a call has ended.
+pub fn ending(c: &[u32; 10]) -> CallEnding
+    ensures { λ r. ⌜ r ≡ resultOf (outcomeOf (getD (now (c .entry)) 7 0) (getD (now (c .entry)) 8 0)) ⌝ }
+{
+    wire_numbers::result_of(wire::outcome_at(c[NUMBER], c[VALUE]))
 }

@@ -5,14 +5,11 @@ ghost use mathlib.Core.Path.{_≡_};
 ghost use Prim.Native.Nat.{ℕ, _<_, _≤_};
 ghost use lib.ListN.{length, take};
 ghost use Rattle.wire.specs.Wire.{Wire, play};
-ghost use Rattle.wire_memap.specs.Laws.Doing.{rememberedOf};
 ghost use Rattle.engine_calls.specs.Calls.{callTree, rowFor};
-ghost use Rattle.engine.specs.Step.{Lent};
+ghost use Rattle.wire_numbers.specs.Results.{endingOf};
+ghost use Rattle.engine.specs.Laws.Step.{LentIn};
 ghost use Rattle.engine_run.specs.Run.{within, RanAs};
-ghost use Rattle.engine_run.specs.Laws.Runs.{Turns, Ends};
-use engine::NextStep;
-use engine::State;
-use engine::StepAnswer;
+ghost use Rattle.engine_run.specs.Laws.Runs.{Turns, Stops, endingIn};
 use engine_calls::EngineCall;
 use wire::Remembered;
 use wire_numbers::CallEnding;
@@ -37,69 +34,62 @@ fn limit_of(budget: u32, answers: &[u64]) -> u32
 
 // One transport call of a call under way: it is noted, and the step takes its answer.
 fn turn(
-    s: State,
+    t: &mut [u32; 7],
+    m: &mut [u32; 12],
+    c: &mut [u32; 10],
     i: u32,
     answers: &[u64],
     row: &mut [u32; 64],
     words: &mut [u32],
     buf: &mut [u8],
     log: &mut [u64],
-) -> StepAnswer
+)
     requires { ⌜ i < length (now answers) ⌝ }
-    ensures { λ x. ⌜ Turns s i (now (answers .entry)) (now (row .entry)) (now (words .entry)) (now (buf .entry)) (now (log .entry)) x (now (row .exit)) (now (words .exit)) (now (buf .exit)) (now (log .exit)) ⌝ }
+    ensures { λ _. ⌜ Turns i (now (answers .entry)) (now (t .entry)) (now (m .entry)) (now (c .entry)) (now (row .entry)) (now (words .entry)) (now (buf .entry)) (now (log .entry)) (now (t .exit)) (now (m .exit)) (now (c .exit)) (now (row .exit)) (now (words .exit)) (now (buf .exit)) (now (log .exit)) ⌝ }
 {
-    wire_numbers::note(log, i, engine::due(s));
+    wire_numbers::note(log, i, wire::due(t));
     let j = i as usize;
     let a = wire_numbers::answer_of(answers[j]);
-    engine::step(s, a, row, words, buf)
+    engine::step_in(t, m, c, a, row, words, buf);
 }
 
-// The report of a run.
-fn reported(count: u32, ending: CallEnding, s: State) -> Ran
-    ensures { λ r. ⌜ r ≡ record { count = count; ending = ending; remembered = rememberedOf (s .op) } ⌝ }
-{
-    let r = engine::remembered(s);
-    Ran {
-        count: count,
-        ending: ending,
-        remembered: r,
-    }
-}
-
-// The turns of a call that is started, until it ends or no answer is left.
+// The turns of a call that is started, until it ends or no answer is left; how many there were.
 fn run_on(
-    start: StepAnswer,
+    t: &mut [u32; 7],
+    m: &mut [u32; 12],
+    c: &mut [u32; 10],
     limit: u32,
     answers: &[u64],
     row: &mut [u32; 64],
     words: &mut [u32],
     buf: &mut [u8],
     log: &mut [u64],
-) -> Ran
+) -> u32
     requires { ⌜ limit ≤ length (now answers) ⌝ }
-    ensures { λ r. ⌜ ((own : Bool) (w : Wire) (row₀ words₀ : List ℕ) → Lent own w start row₀ words₀ (now (row .entry)) (now (words .entry)) (now (buf .entry)) → Ends own w limit (now (answers .entry)) row₀ words₀ (now (log .entry)) r (now (row .exit)) (now (words .exit)) (now (buf .exit)) (now (log .exit))) ⌝ }
+    ensures { λ n. ⌜ ((own : Bool) (w : Wire) (row₀ words₀ : List ℕ) → LentIn own w (now (t .entry)) (now (m .entry)) (now (c .entry)) row₀ words₀ (now (row .entry)) (now (words .entry)) (now (buf .entry)) → Stops own w limit (now (answers .entry)) row₀ words₀ (now (log .entry)) n (now (t .exit)) (now (m .exit)) (now (c .exit)) (now (row .exit)) (now (words .exit)) (now (buf .exit)) (now (log .exit))) ⌝ }
 {
-    let mut x = start;
     let mut i: u32 = 0;
-    loop {
-        let next = x.next;
-        match next {
-            NextStep::Finish(e) => {
-                return reported(i, e, x.state);
-            }
-            NextStep::Make(_) => {
-                if limit <= i {
-                    let spent = CallEnding {
-                        number: 11,
-                        value: 0,
-                    };
-                    return reported(i, spent, x.state);
-                }
-                x = turn(x.state, i, answers, row, words, buf, log);
-                i += 1;
-            }
+    while i < limit {
+        if !engine::is_running(c) {
+            return i;
         }
+        turn(t, m, c, i, answers, row, words, buf, log);
+        i += 1;
     }
+    i
+}
+
+// How a run has ended: with its call, or with its budget.
+fn ending_of(c: &[u32; 10]) -> CallEnding
+    ensures { λ r. ⌜ r ≡ endingOf (endingIn (now (c .entry))) ⌝ }
+{
+    if engine::is_running(c) {
+        return CallEnding {
+            number: 11,
+            value: 0,
+        };
+    }
+    engine::ending(c)
 }
 
 // A whole call over a budget. The answers are what is left of the budget: where there are fewer, the budget is as many as they are.
@@ -107,7 +97,7 @@ fn run_on(
 // far as it reaches.
 pub fn run(
     r: Remembered,
-    c: EngineCall,
+    x: EngineCall,
     budget: u32,
     answers: &[u64],
     frame: &mut [u32; 8],
@@ -115,14 +105,33 @@ pub fn run(
     buf: &mut [u8],
     log: &mut [u64],
 ) -> Ran
-    ensures { λ x. ⌜ RanAs c (play (callTree c r (rowFor c (now (frame .entry))) (now (words .entry)) (now (buf .entry))) (within budget (now (answers .entry)))) x (now (frame .entry)) (now (words .entry)) (now (frame .exit)) (now (words .exit)) (now (buf .exit)) (now (log .entry)) (now (log .exit)) ⌝ }
+    ensures { λ y. ⌜ RanAs x (play (callTree x r (rowFor x (now (frame .entry))) (now (words .entry)) (now (buf .entry))) (within budget (now (answers .entry)))) y (now (frame .entry)) (now (words .entry)) (now (frame .exit)) (now (words .exit)) (now (buf .exit)) (now (log .entry)) (now (log .exit)) ⌝ }
 {
-    let f = engine_calls::frame_for(c);
+    let f = engine_calls::frame_for(x);
     let before = *frame;
     let mut row = engine_calls::row_for(f, before);
     let limit = limit_of(budget, answers);
-    let start = engine::start(r, c, &mut row, words, buf);
-    let ran = run_on(start, limit, answers, &mut row, words, buf, log);
-    *frame = engine_calls::frame_left(f, ran.ending.number == 0, row, before);
-    ran
+    let mut t = [0u32; 7];
+    let mut m = [0u32; 12];
+    let mut c = [0u32; 10];
+    wire_memap::remember(&mut m, r);
+    engine::start_in(&mut t, &mut m, &mut c, x, &mut row, words, buf);
+    let n = run_on(
+        &mut t,
+        &mut m,
+        &mut c,
+        limit,
+        answers,
+        &mut row,
+        words,
+        buf,
+        log,
+    );
+    let e = ending_of(&c);
+    *frame = engine_calls::frame_left(f, e.number == 0, row, before);
+    Ran {
+        count: n,
+        ending: e,
+        remembered: wire_memap::remembered(&m),
+    }
 }

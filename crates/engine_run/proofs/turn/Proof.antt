@@ -7,5 +7,5 @@ use Rattle.engine_run.proofs.turn.Tie as tie
 pub turn-spec : {M : Type 1} → statement M
 turn-spec =
     tie.close (tie.spec (λ c κs. search needs) (λ c κs. search needs) (λ c. search needs) (λ c. search needs) (λ c. search needs) (λ c κs. search needs) (λ c. search needs) (λ c. search needs) (λ c. search needs)
-    (λ c. let a = c .before .before .before .before .before .before .before .before .before .before .before .before .before .before .before .before .before .before .before .args in turns-by (a .s) (a .i) (a .answers .now) (a .row .now) (a .words .now) (a .buf .now) (a .log .now) _ _
-    (c .before .before .before .before .before .before .before .before .before .before .before .before .before .due .ensures) (c .before .before .before .before .before .before .before .before .before .before .before .before .note .ensures) (c .before .before .before .before .before .before .before .before .answer-of .ensures) (c .before .before .before .before .step .ensures)))
+    (λ c. let a = c .before .before .before .before .before .before .before .before .before .before .before .before .before .before .before .before .before .before .before .before .before .before .before .args in turns-by (a .i) (a .answers .now) (a .t .now) (a .m .now) (a .c .now) (a .row .now) (a .words .now) (a .buf .now) (a .log .now) _ _
+    (c .before .before .before .before .before .before .before .before .before .before .before .before .before .before .before .before .due .ensures) (c .before .before .before .before .before .before .before .before .before .before .before .before .before .before .before .note .ensures) (c .before .before .before .before .before .before .before .before .before .before .before .answer-of .ensures) (c .before .before .before .before .step-in .ensures)))

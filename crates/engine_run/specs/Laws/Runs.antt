@@ -1,85 +1,124 @@
 -- How far a run has come, and what it reports where it ends. Serves the proofs only.
 use Prim.Native.Nat.{ℕ, _+_, _<_, _≤_}
-use mathlib.Core.Bool.{Bool, true, false, true≢false, cond}
+use mathlib.Core.Bool.{Bool, true, false, true≢false, not, cond}
 use mathlib.Core.Path.{_≡_, refl, sym, ap, subst, _∙_}
 use mathlib.Core.List.{List, [], map}
 use native.Mathlib.Omega.{arith}
 use lib.Dec.{eqb}
-use lib.ListN.{length, set, getD, take}
+use lib.ListN.{length, set, getD, take, replicate}
 use Rattle.wire.specs.Wire.{Wire, Memory, memoryOf, done, ask, tell, follow, play, Played, Ending, ended, spent}
-use Rattle.wire.specs.Laws.Flight.{transferOf}
+use Rattle.wire.specs.Laws.Flight.{outcomeOf, Mode, Transfer, transferOf, flight}
+use Rattle.wire.specs.Laws.Flight as D
+use Rattle.wire.specs.declared.Outcome.{Outcome}
 use Rattle.wire.specs.declared.Answer.{Answer}
 use Rattle.wire.specs.declared.Call.{Call}
-use Rattle.wire_memap.specs.Laws.Doing.{rememberedOf}
+use Rattle.wire_memap.specs.Laws.Doing.{rememberedOf, stands, Remembers}
 use Rattle.wire_numbers.specs.Log.{answerOf, codeOf, callOf}
 use Rattle.wire_numbers.specs.Results.{resultOf, endingOf}
 use Rattle.wire_numbers.specs.Laws.Result.{number-tells}
 use Rattle.wire_numbers.specs.declared.CallEnding.{CallEnding}
-use Rattle.wire_numbers.specs.declared.TransportCall.{TransportCall}
 use Rattle.engine_calls.specs.Calls.{lent, callTree, frameFor, rowWith, rowFor, leave, wordsLeft, frameLeft}
 use Rattle.engine_calls.specs.declared.Frame.{Frame}
 use Rattle.wire.specs.declared.Remembered.{Remembered}
 use Rattle.engine_calls.specs.declared.EngineCall.{EngineCall}
 use Rattle.engine_calls.specs.declared.EngineCall.the-variants as C
-use Rattle.engine.specs.Step.{nextOf, memoryIn, Steps, Lent, Stepped}
-use Rattle.engine.specs.Laws.State.{ownOf, stateTree, Waits, DueIn, state-due}
-use Rattle.engine.specs.declared.NextStep.{NextStep}
-use Rattle.engine.specs.declared.NextStep.the-variants as N
-use Rattle.engine.specs.declared.State.{State}
-use Rattle.engine.specs.declared.StepAnswer.{StepAnswer}
+use Rattle.engine.specs.Laws.State.{statusAs, flightTree, statusTree, wordsTree, Waits, DueIn, state-due}
+use Rattle.engine.specs.Laws.Step.{StandsFor, LentIn, StartedIn, SteppedIn}
 use Rattle.engine_run.specs.Laws.Along.{Along, rest, along-none, along-step, rest-none}
 use Rattle.engine_run.specs.Run.{within, Reports, RanAs}
 use Rattle.engine_run.specs.declared.Ran.{Ran}
 
+-- the tree of words by their status
+runs-tree : (t m c ws b : List ℕ) → eqb (getD c 6 0) 0 ≡ true → wordsTree t m c ws b ≡ flightTree t m c ws b
+runs-tree t m c ws b z = ap (λ (x : Bool). statusTree (statusAs x (outcomeOf (getD c 7 0) (getD c 8 0))) (flightTree t m c ws b) (stands m ws b)) z
+
+ends-tree : (t m c ws b : List ℕ) → eqb (getD c 6 0) 0 ≡ false → wordsTree t m c ws b ≡ done (stands m ws b) (outcomeOf (getD c 7 0) (getD c 8 0))
+ends-tree t m c ws b z = ap (λ (x : Bool). statusTree (statusAs x (outcomeOf (getD c 7 0) (getD c 8 0))) (flightTree t m c ws b) (stands m ws b)) z
+
+flies-on : (d : Mode) (s : Memory) (t : Transfer) (k : Outcome → Wire) → Waits (flight d s t k)
+flies-on D.trying s t k = tt
+flies-on D.aborting s t k = tt
+flies-on D.raw s t k = tt
+
+none-flight : (d : Mode) (s : Memory) (t : Transfer) (k : Outcome → Wire) → play (flight d s t k) [] ≡ record { calls = []; memory = s; ending = spent }
+unfolding play
+none-flight D.trying s t k = refl
+none-flight D.aborting s t k = refl
+none-flight D.raw s t k = refl
+
+play-none : (t m c ws b : List ℕ) → eqb (getD c 6 0) 0 ≡ true → play (wordsTree t m c ws b) [] ≡ record { calls = []; memory = stands m ws b; ending = spent }
+play-none t m c ws b z = ap (λ (w : Wire). play w []) (runs-tree t m c ws b z) ∙ none-flight (transferOf t .mode) (stands m ws b) (transferOf t) _
+
+play-done : (s : Memory) (o : Outcome) (more : List Answer) → play (done s o) more ≡ record { calls = []; memory = s; ending = ended o }
+unfolding play
+play-done s o more = refl
+
+play-ended : (t m c ws b : List ℕ) (more : List Answer) → eqb (getD c 6 0) 0 ≡ false
+    → play (wordsTree t m c ws b) more ≡ record { calls = []; memory = stands m ws b; ending = ended (outcomeOf (getD c 7 0) (getD c 8 0)) }
+play-ended t m c ws b more z = ap (λ (w : Wire). play w more) (ends-tree t m c ws b z) ∙ play-done (stands m ws b) _ more
+
 -- a turn of the run: the transport call in flight is noted, and the step takes its answer
-pub record Turns (s : State) (i : ℕ) (xs row₀ words₀ b₀ l₀ : List ℕ) (x : StepAnswer) (row words b l : List ℕ) : Type 0 where
-  pub step : Stepped s (answerOf (getD xs i 0)) x row₀ words₀ b₀ row words b
-  pub log : l ≡ set l₀ i (codeOf (transferOf (s .transfer) .call))
-  pub readable : callOf (codeOf (transferOf (s .transfer) .call)) ≡ transferOf (s .transfer) .call
+pub record Turns (i : ℕ) (xs t₀ m₀ c₀ row₀ words₀ b₀ l₀ t m c row words b l : List ℕ) : Type 0 where
+  pub step : SteppedIn (answerOf (getD xs i 0)) t₀ m₀ c₀ row₀ words₀ b₀ t m c row words b
+  pub log : l ≡ set l₀ i (codeOf (transferOf t₀ .call))
+  pub readable : callOf (codeOf (transferOf t₀ .call)) ≡ transferOf t₀ .call
 
--- After i transport calls of the run of the tree w: the answer x reports the tree at which it stands, and what is left of the run
--- is that tree's. `row₀` and `words₀` were there before the call.
-pub record Runs (own : Bool) (w : Wire) (limit : ℕ) (xs row₀ words₀ l₀ : List ℕ) (i : ℕ) (row words b l : List ℕ) (x : StepAnswer) : Type 0 where
-  pub at : Lent own (stateTree (x .state) (cond own words row) b) x row₀ words₀ row words b
-  pub along : Along i l₀ l (play w (rest limit xs 0)) (play (stateTree (x .state) (cond own words row) b) (rest limit xs i))
+pub turns-by : (i : ℕ) (xs t₀ m₀ c₀ row₀ words₀ b₀ l₀ : List ℕ) {t m c row words b l : List ℕ} (a : Answer) (x : Call)
+    → x ≡ transferOf t₀ .call → (l ≡ set l₀ i (codeOf x)) × (callOf (codeOf x) ≡ x) → a ≡ answerOf (getD xs i 0)
+    → SteppedIn a t₀ m₀ c₀ row₀ words₀ b₀ t m c row words b → Turns i xs t₀ m₀ c₀ row₀ words₀ b₀ l₀ t m c row words b l
+turns-by i xs t₀ m₀ c₀ row₀ words₀ b₀ l₀ {t} {m} {c} {row} {words} {b} {l} a x d n h g = record {
+  step = subst (λ (y : Answer). SteppedIn y t₀ m₀ c₀ row₀ words₀ b₀ t m c row words b) h g;
+  log = n .0 ∙ ap (λ (y : Call). set l₀ i (codeOf y)) d;
+  readable = subst (λ (y : Call). callOf (codeOf y) ≡ y) d (n .1);
+}
 
-pub runs-start : (own : Bool) (w : Wire) (limit : ℕ) (xs row₀ words₀ l row words b : List ℕ) (x : StepAnswer) → Lent own w x row₀ words₀ row words b
-    → Runs own w limit xs row₀ words₀ l 0 row words b l x
-runs-start own w limit xs row₀ words₀ l row words b x h =
-    subst (λ (v : Wire). Runs own v limit xs row₀ words₀ l 0 row words b l x) (sym (h .steps .tree)) (record {
-      at = subst (λ (v : Wire). Lent own v x row₀ words₀ row words b) (h .steps .tree) h;
+-- After i transport calls of the run of the tree w: the words stand for what is left of it. `row₀` and `words₀` were there before
+-- the call.
+pub record Runs (own : Bool) (w : Wire) (limit : ℕ) (xs row₀ words₀ l₀ : List ℕ) (i : ℕ) (t m c row words b l : List ℕ) : Type 0 where
+  pub at : LentIn own (wordsTree t m c (cond own words row) b) t m c row₀ words₀ row words b
+  pub along : Along i l₀ l (play w (rest limit xs 0)) (play (wordsTree t m c (cond own words row) b) (rest limit xs i))
+
+pub runs-start : (own : Bool) (w : Wire) (limit : ℕ) (xs row₀ words₀ l t m c row words b : List ℕ) → LentIn own w t m c row₀ words₀ row words b
+    → Runs own w limit xs row₀ words₀ l 0 t m c row words b l
+runs-start own w limit xs row₀ words₀ l t m c row words b h =
+    subst (λ (v : Wire). Runs own v limit xs row₀ words₀ l 0 t m c row words b l) (sym (h .stand .tree)) (record {
+      at = subst (λ (v : Wire). LentIn own v t m c row₀ words₀ row words b) (h .stand .tree) h;
       along = along-none l _;
     })
 
--- the reply tells whether a transport call is due
-make-waits : (w : Wire) (c : TransportCall) → N.Make c ≡ nextOf w → Waits w
-make-waits (done m o) c h = let z : _≡_ {A = ℕ} 0 1 = cc in absurd (omega arith)
-make-waits (ask m d f) c h = tt
-make-waits (tell m d w) c h = tt
+-- a call under way has the transport call in flight due
+words-due : (t m c ws b : List ℕ) → eqb (getD c 6 0) 0 ≡ true → DueIn (wordsTree t m c ws b) (transferOf t .call)
+words-due t m c ws b z = state-due (record { transfer = t; op = m; call = c }) ws b (subst Waits (sym (runs-tree t m c ws b z)) (flies-on (transferOf t .mode) (stands m ws b) (transferOf t) _))
 
-pub runs-turn : (own : Bool) (w : Wire) (limit : ℕ) (xs row₀ words₀ l₀ : List ℕ) (i : ℕ) (row words b l : List ℕ) (x : StepAnswer) (c : TransportCall)
-    (y : StepAnswer) (row₂ words₂ b₂ l₂ : List ℕ) → x .next ≡ N.Make c → i < limit → limit ≤ length xs → Turns (x .state) i xs row words b l y row₂ words₂ b₂ l₂
-    → Runs own w limit xs row₀ words₀ l₀ i row words b l x → Runs own w limit xs row₀ words₀ l₀ (i + 1) row₂ words₂ b₂ l₂ y
-runs-turn own w limit xs row₀ words₀ l₀ i row words b l x c y row₂ words₂ b₂ l₂ e h g t r = record {
+pub runs-turn : (own : Bool) (w : Wire) (limit : ℕ) (xs row₀ words₀ l₀ : List ℕ) (i : ℕ) (t m c row words b l : List ℕ)
+    {t₂ m₂ c₂ row₂ words₂ b₂ l₂ : List ℕ} → eqb (getD c 6 0) 0 ≡ true → i < limit → limit ≤ length xs
+    → Turns i xs t m c row words b l t₂ m₂ c₂ row₂ words₂ b₂ l₂
+    → Runs own w limit xs row₀ words₀ l₀ i t m c row words b l → Runs own w limit xs row₀ words₀ l₀ (i + 1) t₂ m₂ c₂ row₂ words₂ b₂ l₂
+runs-turn own w limit xs row₀ words₀ l₀ i t m c row words b l {t₂} {m₂} {c₂} {row₂} {words₂} {b₂} {l₂} e h g k r = record {
   at = record {
-    steps = subst (λ (v : Wire). Steps v y (cond own words₂ row₂) b₂) (stepped .steps .tree) (stepped .steps);
+    stand = subst (λ (v : Wire). StandsFor v own t₂ m₂ c₂ (cond own words₂ row₂) b₂) (stepped .stand .tree) (stepped .stand);
     other = stepped .other ∙ r .at .other;
-    whose = stepped .whose;
   };
-  along = along-step here limit xs i l₀ l _ (transferOf (x .state .transfer) .call) l₂ a _ h g due (t .log, t .readable) refl (stepped .steps .tree) (r .along);
+  along = along-step here limit xs i l₀ l _ (transferOf t .call) l₂ a _ h g (words-due t m c (cond own words row) b e) (k .log, k .readable) refl (stepped .stand .tree) (r .along);
 }
   where
     a : Answer
     a = answerOf (getD xs i 0)
 
     here : Wire
-    here = stateTree (x .state) (cond own words row) b
+    here = wordsTree t m c (cond own words row) b
 
-    stepped : Lent own (follow here a) y row words row₂ words₂ b₂
-    stepped = subst (λ (o : Bool). Lent o (follow (stateTree (x .state) (cond o words row) b) a) y row words row₂ words₂ b₂) (r .at .whose) (t .step .lent)
+    stepped : LentIn own (follow here a) t₂ m₂ c₂ row words row₂ words₂ b₂
+    stepped = subst (λ (o : Bool). LentIn o (follow (wordsTree t m c (cond o words row) b) a) t₂ m₂ c₂ row words row₂ words₂ b₂) (r .at .stand .whose)
+        (k .step .lent (r .at .stand .fits) (r .at .stand .sized))
 
-    due : DueIn here (transferOf (x .state .transfer) .call)
-    due = state-due (x .state) (cond own words row) b (make-waits here c (sym e ∙ r .at .steps .next))
+-- how a run has ended: with its call, or with its budget
+abbrev pub endingAs : Bool → List ℕ → Ending
+endingAs true c = spent
+endingAs false c = ended (outcomeOf (getD c 7 0) (getD c 8 0))
+
+abbrev pub endingIn : List ℕ → Ending
+endingIn c = endingAs (eqb (getD c 6 0) 0) c
 
 -- the report of a run of which nothing is left
 reports-none : (i : ℕ) (l₀ l : List ℕ) (p : Played) (x : Ending) (r : Ran) (ws b : List ℕ)
@@ -95,54 +134,23 @@ reports-none i l₀ l p x r ws b al n e =
       readable = al .readable refl;
     }
 
--- the call has ended
-finish-at : (w : Wire) (e : CallEnding) (i : ℕ) (l₀ l : List ℕ) (p : Played) (r : Ran) (ws b : List ℕ) (more : List Answer) → N.Finish e ≡ nextOf w
-    → memoryOf (r .remembered) ws b ≡ memoryIn w → r .count ≡ i → r .ending ≡ e → Along i l₀ l p (play w more) → Reports p r ws b l₀ l
-unfolding play
-finish-at (done m o) e i l₀ l p r ws b more h g n k al =
-    reports-none i l₀ l p (ended o) r ws b (subst (λ (z : Memory). Along i l₀ l p (record { calls = []; memory = z; ending = ended o })) (sym g) al) n
-    (k ∙ ap endingIn h)
-  where
-    endingIn : NextStep → CallEnding
-    endingIn (N.Make c) = e
-    endingIn (N.Finish f) = f
-finish-at (ask m c f) e i l₀ l p r ws b more h g n k al = let z : _≡_ {A = ℕ} 0 1 = cc in absurd (omega arith)
-finish-at (tell m c w) e i l₀ l p r ws b more h g n k al = let z : _≡_ {A = ℕ} 0 1 = cc in absurd (omega arith)
+-- a run that stops after n calls: its call has ended, or no answer is left
+pub record Stops (own : Bool) (w : Wire) (limit : ℕ) (xs row₀ words₀ l₀ : List ℕ) (n : ℕ) (t m c row words b l : List ℕ) : Type 0 where
+  pub runs : Runs own w limit xs row₀ words₀ l₀ n t m c row words b l
+  pub over : eqb (getD c 6 0) 0 ≡ true → limit ≤ n
 
--- the budget is spent
-spent-at : (w : Wire) (c : TransportCall) (i : ℕ) (l₀ l : List ℕ) (p : Played) (r : Ran) (ws b : List ℕ) → N.Make c ≡ nextOf w
-    → memoryOf (r .remembered) ws b ≡ memoryIn w → r .count ≡ i → r .ending ≡ endingOf spent → Along i l₀ l p (play w []) → Reports p r ws b l₀ l
-unfolding play
-spent-at (done m o) c i l₀ l p r ws b h g n k al = let z : _≡_ {A = ℕ} 0 1 = cc in absurd (omega arith)
-spent-at (ask m d f) c i l₀ l p r ws b h g n k al =
-    reports-none i l₀ l p spent r ws b (subst (λ (z : Memory). Along i l₀ l p (record { calls = []; memory = z; ending = spent })) (sym g) al) n k
-spent-at (tell m d w) c i l₀ l p r ws b h g n k al =
-    reports-none i l₀ l p spent r ws b (subst (λ (z : Memory). Along i l₀ l p (record { calls = []; memory = z; ending = spent })) (sym g) al) n k
-
--- what a run of the tree w comes to: its report, and what of row and words it did not run over
-pub record Ends (own : Bool) (w : Wire) (limit : ℕ) (xs row₀ words₀ l₀ : List ℕ) (r : Ran) (row words b l : List ℕ) : Type 0 where
-  pub reports : Reports (play w (rest limit xs 0)) r (cond own words row) b l₀ l
-  pub other : cond own row words ≡ cond own row₀ words₀
-
-module _ (own : Bool) (w : Wire) (limit : ℕ) (xs row₀ words₀ l₀ : List ℕ) (i : ℕ) (row words b l : List ℕ) (x : StepAnswer) where
-  pub runs-finish : (e : CallEnding) (r : Ran) → x .next ≡ N.Finish e → r ≡ record { count = i; ending = e; remembered = rememberedOf (x .state .op) }
-      → Runs own w limit xs row₀ words₀ l₀ i row words b l x → Ends own w limit xs row₀ words₀ l₀ r row words b l
-  runs-finish e r h k g = record {
-    reports = finish-at (stateTree (x .state) (cond own words row) b) e i l₀ l _ r (cond own words row) b (rest limit xs i) (sym h ∙ g .at .steps .next)
-        (ap (λ (y : Ran). memoryOf (y .remembered) (cond own words row) b) k ∙ g .at .steps .memory) (ap (λ (y : Ran). y .count) k) (ap (λ (y : Ran). y .ending) k)
-        (g .along);
-    other = g .at .other;
-  }
-
-  pub runs-spent : (c : TransportCall) (r : Ran) → x .next ≡ N.Make c → limit ≤ i
-      → r ≡ record { count = i; ending = endingOf spent; remembered = rememberedOf (x .state .op) }
-      → Runs own w limit xs row₀ words₀ l₀ i row words b l x → Ends own w limit xs row₀ words₀ l₀ r row words b l
-  runs-spent c r h z k g = record {
-    reports = spent-at (stateTree (x .state) (cond own words row) b) c i l₀ l _ r (cond own words row) b (sym h ∙ g .at .steps .next)
-        (ap (λ (y : Ran). memoryOf (y .remembered) (cond own words row) b) k ∙ g .at .steps .memory) (ap (λ (y : Ran). y .count) k) (ap (λ (y : Ran). y .ending) k)
-        (subst (λ (more : List Answer). Along i l₀ l (play w (rest limit xs 0)) (play (stateTree (x .state) (cond own words row) b) more)) (rest-none limit xs i z) (g .along));
-    other = g .at .other;
-  }
+stop-at : (running : Bool) (own : Bool) (w : Wire) (limit : ℕ) (xs row₀ words₀ l₀ : List ℕ) (n : ℕ) (t m c row words b l : List ℕ) (r : Ran)
+    → eqb (getD c 6 0) 0 ≡ running → r .count ≡ n → r .ending ≡ endingOf (endingAs running c) → r .remembered ≡ rememberedOf m
+    → Stops own w limit xs row₀ words₀ l₀ n t m c row words b l → Reports (play w (rest limit xs 0)) r (cond own words row) b l₀ l
+stop-at true own w limit xs row₀ words₀ l₀ n t m c row words b l r e h k g s =
+    reports-none n l₀ l _ spent r (cond own words row) b
+    (subst (λ (z : Memory). Along n l₀ l (play w (rest limit xs 0)) (record { calls = []; memory = z; ending = spent })) (ap (λ (y : Remembered). memoryOf y (cond own words row) b) (sym g))
+    (subst (λ (z : Played). Along n l₀ l (play w (rest limit xs 0)) z)
+    (ap (play (wordsTree t m c (cond own words row) b)) (rest-none limit xs n (s .over e)) ∙ play-none t m c (cond own words row) b e) (s .runs .along))) h k
+stop-at false own w limit xs row₀ words₀ l₀ n t m c row words b l r e h k g s =
+    reports-none n l₀ l _ (ended (outcomeOf (getD c 7 0) (getD c 8 0))) r (cond own words row) b
+    (subst (λ (z : Memory). Along n l₀ l (play w (rest limit xs 0)) (record { calls = []; memory = z; ending = ended (outcomeOf (getD c 7 0) (getD c 8 0)) })) (ap (λ (y : Remembered). memoryOf y (cond own words row) b) (sym g))
+    (subst (λ (z : Played). Along n l₀ l (play w (rest limit xs 0)) z) (play-ended t m c (cond own words row) b (rest limit xs n) e) (s .runs .along))) h k
 
 -- a report over the words of the call's runs is one over what the caller lends
 reports-ran : (c : EngineCall) (p : Played) (r : Ran) (ws frame₀ words₀ frame words b l₀ l : List ℕ)
@@ -181,23 +189,31 @@ ran-as c true p r row words b l₀ l row₀ words₀ frame₀ frame e h o f =
 ran-as c false p r row words b l₀ l row₀ words₀ frame₀ frame e h o f =
     reports-ran c p r row frame₀ words₀ frame words b l₀ l f (o ∙ ap (λ (own : Bool). cond own row words₀) (sym e)) h
 
-pub turns-by : (s : State) (i : ℕ) (xs row₀ words₀ b₀ l₀ : List ℕ) {x : StepAnswer} {row words b l : List ℕ} (a : Answer) (c : Call)
-    → c ≡ transferOf (s .transfer) .call → (l ≡ set l₀ i (codeOf c)) × (callOf (codeOf c) ≡ c) → a ≡ answerOf (getD xs i 0)
-    → Stepped s a x row₀ words₀ b₀ row words b → Turns s i xs row₀ words₀ b₀ l₀ x row words b l
-turns-by s i xs row₀ words₀ b₀ l₀ {x} {row} {words} {b} {l} a c d n h g = record {
-  step = subst (λ (y : Answer). Stepped s y x row₀ words₀ b₀ row words b) h g;
-  log = n .0 ∙ ap (λ (y : Call). set l₀ i (codeOf y)) d;
-  readable = subst (λ (y : Call). callOf (codeOf y) ≡ y) d (n .1);
-}
-
 -- the whole run: over a row with the frame that the call finds, within the budget
-pub run-ran : (c : EngineCall) (r : Remembered) (budget limit : ℕ) (xs frame₀ row₀ words₀ b₀ l₀ : List ℕ) (f : Frame) {x : Ran} {row words b l frame : List ℕ}
+pub run-ran : (c : EngineCall) (r : Remembered) (budget limit : ℕ) (xs frame₀ row₀ words₀ b₀ l₀ : List ℕ) (f : Frame) (n : ℕ) (t₁ m₁ c₁ : List ℕ) {x : Ran} {row words b l frame : List ℕ}
     → f ≡ frameFor c → row₀ ≡ rowWith f frame₀ → take limit xs ≡ take budget xs
-    → Ends (lent c) (callTree c r row₀ words₀ b₀) limit xs row₀ words₀ l₀ x row words b l → frame ≡ leave f (eqb (x .ending .number) 0) row frame₀
+    → x .count ≡ n → x .ending ≡ endingOf (endingIn c₁) → x .remembered ≡ rememberedOf m₁
+    → Stops (lent c) (callTree c r row₀ words₀ b₀) limit xs row₀ words₀ l₀ n t₁ m₁ c₁ row words b l → frame ≡ leave f (eqb (x .ending .number) 0) row frame₀
     → RanAs c (play (callTree c r (rowFor c frame₀) words₀ b₀) (within budget xs)) x frame₀ words₀ frame words b l₀ l
-run-ran c r budget limit xs frame₀ row₀ words₀ b₀ l₀ f {x} {row} {words} {b} {l} {frame} hf hr ht g h =
+run-ran c r budget limit xs frame₀ row₀ words₀ b₀ l₀ f n t₁ m₁ c₁ {x} {row} {words} {b} {l} {frame} hf hr ht hn he hm g h =
     ran-as c (lent c) (play (callTree c r (rowFor c frame₀) words₀ b₀) (within budget xs)) x row words b l₀ l row₀ words₀ frame₀ frame refl
     (subst (λ (as′ : List ℕ). Reports (play (callTree c r (rowFor c frame₀) words₀ b₀) (map answerOf as′)) x (cond (lent c) words row) b l₀ l) ht
     (subst (λ (ws : List ℕ). Reports (play (callTree c r ws words₀ b₀) (rest limit xs 0)) x (cond (lent c) words row) b l₀ l)
-    (hr ∙ ap (λ (y : Frame). rowWith y frame₀) hf) (g .reports)))
-    (g .other) (h ∙ ap (λ (y : Frame). leave y (eqb (x .ending .number) 0) row frame₀) hf)
+    (hr ∙ ap (λ (y : Frame). rowWith y frame₀) hf) (stop-at (eqb (getD c₁ 6 0) 0) (lent c) (callTree c r row₀ words₀ b₀) limit xs row₀ words₀ l₀ n t₁ m₁ c₁ row words b l x refl hn he hm g)))
+    (g .runs .at .other) (h ∙ ap (λ (y : Frame). leave y (eqb (x .ending .number) 0) row frame₀) hf)
+
+-- a call that is under way is not over
+pub still-running : (x y : Bool) → x ≡ y → not x ≡ false → y ≡ true
+still-running true y h e = sym h
+still-running false y h e = absurd (true≢false e)
+
+pub never-running : (x y : Bool) {A : Type 0} → x ≡ y → not x ≡ true → y ≡ true → A
+never-running true y h e g = absurd (true≢false (sym e))
+never-running false y h e g = absurd (true≢false (sym g ∙ sym h))
+
+-- a start in words that remember r
+pub started-in : (x : EngineCall) (r : Remembered) (m₀ row₀ words₀ b₀ : List ℕ) {t m c row words b : List ℕ} → Remembers r m₀
+    → StartedIn x (replicate 7 0) m₀ (replicate 10 0) row₀ words₀ b₀ t m c row words b
+    → LentIn (lent x) (callTree x r row₀ words₀ b₀) t m c row₀ words₀ row words b
+started-in x r m₀ row₀ words₀ b₀ {t} {m} {c} {row} {words} {b} h g =
+    subst (λ (y : Remembered). LentIn (lent x) (callTree x y row₀ words₀ b₀) t m c row₀ words₀ row words b) (h .is) (g .lent (refl, h .sized) refl)
