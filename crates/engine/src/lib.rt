@@ -118,14 +118,18 @@ fn begun(t: &mut [u32; 7], m: &mut [u32; 12], c: &mut [u32; 10], n: Next)
     }
 }
 
-// A change of what is kept.
-fn change(m: &mut [u32; 12], x: Change, ws: &mut [u32], buf: &mut [u8])
-    ensures { λ _. ⌜ Changes x (now (m .entry)) (now (ws .entry)) (now (buf .entry)) (now (m .exit)) (now (ws .exit)) (now (buf .exit)) ⌝ }
+fn changes(m: &mut [u32; 12], x: Change, ws: &mut [u32], buf: &mut [u8])
 {
     let r = call::make_change(x, wire_memap::remembered(m), ws, buf);
     wire_memap::remember(m, r);
 }
-
+fn change(m: &mut [u32; 12], x: Change, ws: &mut [u32], buf: &mut [u8])
+{
+    match x {
+        Change::Nothing => {}
+        _ => changes(m, x, ws, buf),
+    }
+}
 // A change, and then what is asked for.
 fn asked(
     t: &mut [u32; 7],
@@ -159,6 +163,10 @@ fn step_over(
     match wire_memap::op_step(t, m, a, ws) {
         Went::Moving => {}
         Went::Finished(o) => {
+            if c[STEP] == 0 {
+                over(c, o);
+                return;
+            }
             let at = at_of(c);
             asked(t, m, c, engine_calls::call_after(at, o), ws, buf)
         }
@@ -189,6 +197,8 @@ pub fn start_in(
     asked(t, m, c, a, row, buf);
 }
 
+
+
 // One step in words that are lent. A call that has ended stays as it is.
 pub fn step_in(
     t: &mut [u32; 7],
@@ -210,6 +220,36 @@ pub fn step_in(
     }
 }
 
+
+pub fn runs_in(t: &mut [u32; 7], m: &mut [u32; 12], c: &[u32; 10], v: u32, row: &mut [u32; 64]) -> bool
+{
+    if c[STATUS] == 0 {
+        if c[OWN] != 1 {
+            return wire_memap::op_runs(t, m, v, row);
+        }
+    }
+    false
+}
+
+pub fn value_in(
+    t: &mut [u32; 7],
+    m: &mut [u32; 12],
+    c: &mut [u32; 10],
+    v: u32,
+    row: &mut [u32; 64],
+    words: &mut [u32],
+    buf: &mut [u8],
+)
+{
+    if c[STATUS] == 0 {
+        if c[OWN] != 1 {
+            if wire_memap::op_moves(t, m, v, row) {
+                return;
+            }
+        }
+    }
+    step_in(t, m, c, Answer::Good(v), row, words, buf);
+}
 // What the words of a state say: the transport call that is due, or the ending.
 fn answer(t: [u32; 7], m: [u32; 12], c: [u32; 10]) -> StepAnswer
     ensures { λ x. ⌜ Answers t m c x ⌝ }

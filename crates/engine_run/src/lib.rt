@@ -47,10 +47,17 @@ fn turn(
     requires { ⌜ i < length (now answers) ⌝ }
     ensures { λ _. ⌜ Turns i (now (answers .entry)) (now (t .entry)) (now (m .entry)) (now (c .entry)) (now (row .entry)) (now (words .entry)) (now (buf .entry)) (now (log .entry)) (now (t .exit)) (now (m .exit)) (now (c .exit)) (now (row .exit)) (now (words .exit)) (now (buf .exit)) (now (log .exit)) ⌝ }
 {
-    wire_numbers::note(log, i, wire::due(t));
+    wire_numbers::note_words(log, i, t);
     let j = i as usize;
-    let a = wire_numbers::answer_of(answers[j]);
-    engine::step_in(t, m, c, a, row, words, buf);
+    let x = answers[j];
+    if x < 0x100000000 {
+        if engine::runs_in(t, m, c, x as u32, row) {
+            return;
+        }
+        engine::value_in(t, m, c, x as u32, row, words, buf);
+        return;
+    }
+    engine::step_in(t, m, c, wire_numbers::answer_of(x), row, words, buf);
 }
 
 // The turns of a call that is started, until it ends or no answer is left; how many there were.

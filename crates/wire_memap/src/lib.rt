@@ -3,6 +3,7 @@
 // Ported from arm-debug/src/lib.rs of ciniml/rust-dap.
 
 // Registers of the two ports with the SELECT and CSW caches, words and runs of words, each transfer by transfer.
+ghost use mathlib.Core.Bool.{true, false};
 ghost use mathlib.Core.Path.{_≡_};
 ghost use Prim.Native.Nat.{_-_, _<_, _≤_};
 ghost use lib.ListN.{set, getD};
@@ -10,10 +11,13 @@ ghost use Rattle.wire.specs.Laws.Flight.{begun};
 ghost use Rattle.wire_memap.specs.Ports.{selectOf, a32};
 ghost use Rattle.wire_memap.specs.Laws.Doing.{rememberedOf, kindOf, OpSized, Remembers};
 ghost use Rattle.wire_memap.specs.Words.{pull, push};
-ghost use Rattle.wire_memap.specs.Laws.Flight.{waiting, selectStands, Accessed, Fits, Begun, BegunAt, Goes};
-ghost use Rattle.wire_memap.specs.Laws.Flight.{ensuringTask, dataTree, tarAfter, valueTree, endedTree, stepTree};
+ghost use Rattle.wire_memap.specs.declared.Went.the-variants.{Moving};
+ghost use Rattle.wire_memap.specs.Laws.Flight.{waiting, selectStands, Accessed, Fits, Begun, BegunAt, Goes, Ends, Tries};
+ghost use Rattle.wire_memap.specs.Laws.Flight.{ensuringTask, empty, following, dataAfter, tarAfter, endedTree, stepTree};
 ghost use Rattle.wire_memap.specs.Ops.{perform};
 ghost use Rattle.wire.specs.Transfer.{raw};
+ghost use Rattle.wire.specs.declared.Answer.the-variants.{Good};
+ghost use Rattle.wire.specs.declared.Outcome.the-variants.{Value};
 use wire::Answer;
 use wire::Call;
 use wire::Outcome;
@@ -68,26 +72,26 @@ const CSW: usize = 10;
 
 const APSEL: usize = 11;
 
-// The phases.
+// The phases. An operation is over after one of the first three; after the others one more access follows.
 const ONLY: u32 = 0;
 
 const UNIT: u32 = 1;
 
-const POSTED: u32 = 2;
+const LAST_READ: u32 = 2;
 
-const CSW_SENT: u32 = 3;
+const POSTED: u32 = 3;
 
-const TAR_SENT: u32 = 4;
+const CSW_SENT: u32 = 4;
 
-const SENT: u32 = 5;
+const TAR_SENT: u32 = 5;
 
-const FIRST: u32 = 6;
+const SENT: u32 = 6;
 
-const PULL: u32 = 7;
+const FIRST: u32 = 7;
 
-const LAST_READ: u32 = 8;
+const PUSH: u32 = 8;
 
-const PUSH: u32 = 9;
+const PULL: u32 = 9;
 
 const SELECTING: u32 = 16;
 
@@ -218,31 +222,34 @@ fn push_on(t: &mut [u32; 7], m: &mut [u32; 12], more: u32, row: &[u32])
     direct(t, m, PUSH, DRW_WRITE, v);
 }
 
-// The first data access of a task.
-fn data_on(t: &mut [u32; 7], m: &mut [u32; 12], row: &[u32]) -> Went
-    ensures { λ r. ⌜ (Fits (now (t .entry)) (now (m .entry))
-        → Goes (dataTree (now (m .entry)) (now (row .entry))) r (now (t .exit)) (now (m .exit)) (now (row .entry))) ⌝ }
+// Whether a run of reads has no words: it ends with TAR.
+fn is_empty(m: &[u32; 12]) -> bool
+    ensures { λ r. ⌜ r ≡ empty (now (m .entry)) ⌝ }
+{
+    if m[TASK] == READ_WORDS {
+        return m[LEFT] == 0;
+    }
+    false
+}
+
+// The first data access of a task that is not empty.
+fn data_on(t: &mut [u32; 7], m: &mut [u32; 12], row: &[u32])
+    ensures { λ _. ⌜ (empty (now (m .entry)) ≡ false → BegunAt (dataAfter (now (m .entry))) (now (row .entry))
+        (now (t .entry)) (now (m .entry)) (now (t .exit)) (now (m .exit))) ⌝ }
 {
     let kind = m[TASK];
-    let n = m[LEFT];
     match kind {
         0 => access(t, m, POSTED, DRW_READ, DRW, 0),
         1 => {
             let word = m[DATA];
             access(t, m, SENT, DRW_WRITE, DRW, word)
         }
-        2 => {
-            if n == 0 {
-                return Went::Finished(Outcome::Value(0));
-            }
-            access(t, m, FIRST, DRW_READ, DRW, 0)
-        }
+        2 => access(t, m, FIRST, DRW_READ, DRW, 0),
         _ => {
-            let word = word_at(row, minus(m[LAST], minus(n, 1)));
+            let word = word_at(row, minus(m[LAST], minus(m[LEFT], 1)));
             access(t, m, PUSH, DRW_WRITE, DRW, word)
         }
     }
-    Went::Moving
 }
 
 // CSW stands: TAR is next.
@@ -252,36 +259,6 @@ fn tar_on(t: &mut [u32; 7], m: &mut [u32; 12])
     m[CSW] = 1;
     let addr = m[ADDR];
     access(t, m, TAR_SENT, TAR_WRITE, TAR, addr);
-}
-
-// What an operation does with the value of its access, which is not SELECT's.
-fn value_after(t: &mut [u32; 7], m: &mut [u32; 12], v: u32, row: &mut [u32]) -> Went
-    ensures { λ r. ⌜ (getD (now (m .entry)) 0 0 < 16 → Fits (now (t .entry)) (now (m .entry))
-        → Goes (valueTree (now (m .entry)) v (now (row .entry))) r (now (t .exit)) (now (m .exit)) (now (row .exit))) ⌝ }
-{
-    let phase = m[PHASE];
-    let n = m[LEFT];
-    let last = m[LAST];
-    match phase {
-        0 => return Went::Finished(Outcome::Value(v)),
-        1 => return Went::Finished(Outcome::Value(0)),
-        2 => direct(t, m, ONLY, RDBUFF_READ, 0),
-        3 => tar_on(t, m),
-        4 => return data_on(t, m, row),
-        5 => direct(t, m, UNIT, RDBUFF_READ, 0),
-        6 => pull_on(t, m, minus(n, 1)),
-        7 => {
-            let more = minus(n, 1);
-            place_word(row, minus(last, n), v);
-            pull_on(t, m, more)
-        }
-        8 => {
-            place_word(row, last, v);
-            return Went::Finished(Outcome::Value(0));
-        }
-        _ => push_on(t, m, minus(n, 1), row),
-    }
-    Went::Moving
 }
 
 // SELECT is written: the access's own transfer is next.
@@ -298,6 +275,57 @@ fn selected(t: &mut [u32; 7], m: &mut [u32; 12])
     wire::begin(t, request, word);
 }
 
+// Whether one more access follows the value of the one in flight.
+fn follows(m: &[u32; 12]) -> bool
+    ensures { λ r. ⌜ r ≡ following (now (m .entry)) ⌝ }
+{
+    let phase = m[PHASE];
+    if phase == TAR_SENT {
+        return !is_empty(m);
+    }
+    LAST_READ < phase
+}
+
+// The access that follows the value v.
+fn move_on(t: &mut [u32; 7], m: &mut [u32; 12], v: u32, row: &mut [u32])
+    ensures { λ _. ⌜ (following (now (m .entry)) ≡ true → Fits (now (t .entry)) (now (m .entry))
+        → Goes (endedTree (now (m .entry)) (Value v) (now (row .entry))) Moving (now (t .exit)) (now (m .exit)) (now (row .exit))) ⌝ }
+{
+    let phase = m[PHASE];
+    if SELECTING <= phase {
+        selected(t, m);
+        return;
+    }
+    let n = m[LEFT];
+    match phase {
+        3 => direct(t, m, ONLY, RDBUFF_READ, 0),
+        4 => tar_on(t, m),
+        5 => data_on(t, m, row),
+        6 => direct(t, m, UNIT, RDBUFF_READ, 0),
+        7 => pull_on(t, m, minus(n, 1)),
+        8 => push_on(t, m, minus(n, 1), row),
+        _ => {
+            place_word(row, minus(m[LAST], n), v);
+            pull_on(t, m, minus(n, 1))
+        }
+    }
+}
+
+// What the last access of an operation leaves: the operation's value, which is its own, or 0; a run's last word goes to the row.
+fn last_value(m: &[u32; 12], v: u32, row: &mut [u32]) -> u32
+    ensures { λ r. ⌜ (following (now (m .entry)) ≡ false → Ends v r (now (m .entry)) (now (row .entry)) (now (row .exit))) ⌝ }
+{
+    let phase = m[PHASE];
+    if phase == ONLY {
+        return v;
+    }
+    if phase == LAST_READ {
+        place_word(row, m[LAST], v);
+        return 0;
+    }
+    0
+}
+
 // What an operation in flight does with the outcome of its transport call; an error ends it.
 fn op_ended(t: &mut [u32; 7], m: &mut [u32; 12], o: Outcome, row: &mut [u32]) -> Went
     ensures { λ r. ⌜ (Fits (now (t .entry)) (now (m .entry))
@@ -305,14 +333,57 @@ fn op_ended(t: &mut [u32; 7], m: &mut [u32; 12], o: Outcome, row: &mut [u32]) ->
 {
     match o {
         Outcome::Value(v) => {
-            if m[PHASE] < SELECTING {
-                return value_after(t, m, v, row);
+            if follows(m) {
+                move_on(t, m, v, row);
+                return Went::Moving;
             }
-            selected(t, m);
-            Went::Moving
+            let last = last_value(m, v, row);
+            Went::Finished(Outcome::Value(last))
         }
         Outcome::Failed(e) => Went::Finished(Outcome::Failed(e)),
     }
+}
+
+// The next word of a run, at once, where the value v is that of one that another follows; else nothing is done.
+pub fn op_runs(t: &mut [u32; 7], m: &mut [u32; 12], v: u32, row: &mut [u32]) -> bool
+    ensures { λ r. ⌜ Tries (stepTree (now (t .entry)) (now (m .entry)) (Good v) (now (row .entry))) r
+        (now (t .entry)) (now (m .entry)) (now (row .entry)) (now (t .exit)) (now (m .exit)) (now (row .exit)) ⌝ }
+{
+    if wire::is_aborting(t) {
+        return false;
+    }
+    let phase = m[PHASE];
+    let n = m[LEFT];
+    if 1 < n {
+        if phase == PULL {
+            place_word(row, minus(m[LAST], n), v);
+            m[LEFT] = n - 1;
+            direct(t, m, PULL, DRW_READ, 0);
+            return true;
+        }
+        if phase == PUSH {
+            let w = word_at(row, minus(m[LAST], n - 2));
+            m[LEFT] = n - 1;
+            direct(t, m, PUSH, DRW_WRITE, w);
+            return true;
+        }
+    }
+    false
+}
+
+// The access that follows the value v, if one does: else nothing is done.
+pub fn op_moves(t: &mut [u32; 7], m: &mut [u32; 12], v: u32, row: &mut [u32]) -> bool
+    ensures { λ r. ⌜ Tries (stepTree (now (t .entry)) (now (m .entry)) (Good v) (now (row .entry))) r
+        (now (t .entry)) (now (m .entry)) (now (row .entry)) (now (t .exit)) (now (m .exit)) (now (row .exit)) ⌝ }
+{
+    if wire::is_aborting(t) {
+        return false;
+    }
+    if follows(m) {
+        move_on(t, m, v, row);
+        return true;
+    }
+    false
 }
 
 // What an operation in flight does with an answer.

@@ -411,3 +411,27 @@ pub fn call_of(x: u64) -> Call
     }
     Call::OutputEnable
 }
+
+fn put(log: &mut [u64], i: u32, x: u64)
+{
+    let j = i as usize;
+    if j < log.len() {
+        log[j] = x;
+    }
+}
+
+pub fn note_words(log: &mut [u64], i: u32, t: &[u32; 7])
+{
+    if t[2] == 0 {
+        put(log, i, ((t[3] % 256) as u64) * 0x100000000 + (t[4] as u64));
+        return;
+    }
+    note(log, i, wire::due(t))
+}
+
+pub fn answer_at(code: u32, value: u32) -> Answer {
+    if code == 0 { return Answer::Good(value); }
+    if code == 1 { return Answer::SwdError((value % 256) as u8); }
+    if code == 2 { return Answer::NotSupported; }
+    Answer::Other
+}

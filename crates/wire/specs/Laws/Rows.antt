@@ -1,5 +1,5 @@
 -- A table by number, and a number that none of its rows has; a list of so many words, word by word. Serves the proofs only.
-use Prim.Native.Nat.{ℕ, zero, suc, _≤_, zero-le}
+use Prim.Native.Nat.{ℕ, zero, suc, _+_, _≤_, zero-le}
 use mathlib.Core.List.{List, [], _∷_}
 use mathlib.Core.Path.{_≡_, refl, ap}
 use native.Mathlib.Omega.{arith}
@@ -14,7 +14,16 @@ at-least : (k n : ℕ) → noneBelow k n → k ≤ n
 at-least zero n h = zero-le
 at-least (suc k) n h = let p : k ≤ n = at-least k n (h .0) in let q : n ≡ k → ⊥ = h .1 in omega arith
 
-past : {A : Type 0} (rows : List A) (n : ℕ) (d : A) → length rows ≤ n → d ≡ getD rows n d
+-- the same of the k numbers from s on
+abbrev pub noneFrom : ℕ → ℕ → ℕ → Type 0
+noneFrom s zero n = Unit {0}
+noneFrom s (suc k) n = noneFrom s k n × (n ≡ s + k → ⊥)
+
+pub from-least : (s k n : ℕ) → s ≤ n → noneFrom s k n → s + k ≤ n
+from-least s zero n l h = omega arith
+from-least s (suc k) n l h = let p : s + k ≤ n = from-least s k n l (h .0) in let q : n ≡ s + k → ⊥ = h .1 in omega arith
+
+pub past : {A : Type 0} (rows : List A) (n : ℕ) (d : A) → length rows ≤ n → d ≡ getD rows n d
 past [] n d h = refl
 past (r ∷ rows) zero d h = absurd (omega arith)
 past (r ∷ rows) (suc n) d h = past rows n d (omega arith)

@@ -1,22 +1,22 @@
 -- The kind makes the definition compute to its first access, which `access` begins.
-use native.Mathlib.Omega.{arith}
-use Prim.Native.Nat.{_-_}
+use Prim.Native.Nat.{ℕ, _-_}
 use mathlib.Core.Path.{ap, _∙_}
-use borrow.Author.Tests.{ne-eqb, eq-eqb}
+use native.Mathlib.Omega.{arith}
 use lib.ListN.{getD}
-use Rattle.wire_memap.specs.Laws.Flight.{goes-of, ends-with, data-writes}
+use Rattle.wire_memap.specs.Laws.Flight.{begins-of, data-reads, data-writes}
 use borrow.Author.Needs.{needs}
 use Rattle.wire_memap.proofs.data_on.Statement.{statement}
 use Rattle.wire_memap.proofs.data_on.Tie as tie
 
 pub data-on-spec : {M : Type 1} → statement M
 data-on-spec =
-    tie.close (tie.spec (λ c. search needs) (λ c. search needs) (λ c κs. search needs) (λ c. search needs) (λ c κs. search needs)
-    (λ c f. ends-with f (λ b k. simp (c .before .match .keys3) (simp (eq-eqb _ _ (c .if1 .taken)))))
-    (λ c κs. search needs) (λ c. search needs) (λ c κs. search needs) (λ c κs. search needs) (λ c κs. search needs) (λ c κs. search needs)
-    (λ c f. goes-of (λ b k. simp (c .before .before .before .match .keys1)) (c .access .ensures (omega arith) f _))
-    (λ c f. goes-of (λ b k. simp (c .before .before .before .before .match .keys2)) (c .access2 .ensures (omega arith) f _))
-    (λ c f. goes-of (λ b k. simp (c .before .before .before .before .match .keys3) (simp (ne-eqb _ _ (c .before .before .before .if1 .left)))) (c .access3 .ensures (omega arith) f _))
-    (λ c f. let a = c .before .before .before .before .before .before .before .before .before .before .before .args in goes-of (data-writes (a .m .now) (a .row .now) _ (c .before .before .before .before .before .before .before .match .rest)
-    (c .before .before .before .word-at .ensures ∙ ap (λ i. getD (a .row .now) i 0) (c .before .before .before .before .minus2 .ensures ∙ ap (λ i. getD (a .m .now) 2 0 - i) (c .before .before .before .before .before .minus .ensures))))
+    tie.close (tie.spec (λ c. search needs) (λ c κs. search needs) (λ c. search needs) (λ c κs. search needs) (λ c κs. search needs) (λ c. search needs) (λ c. search needs) (λ c κs. search needs) (λ c κs. search needs) (λ c κs. search needs) (λ c κs. search needs)
+    (λ c h f. begins-of (λ b k. simp (c .before .before .before .match .keys1)) (c .access .ensures (omega arith) f _))
+    (λ c h f. begins-of (λ b k. simp (c .before .before .before .before .match .keys2)) (c .access2 .ensures (omega arith) f _))
+    (λ c h f. let a = c .before .before .before .before .before .before .args in
+    begins-of (data-reads (a .m .now) (a .row .now) (c .before .before .before .match .keys3) h) (c .access3 .ensures (omega arith) f _))
+    (λ c h f. let a = c .before .before .before .before .before .before .before .before .before .before .before .args in
+    begins-of (data-writes (a .m .now) (a .row .now) _ (c .before .before .before .before .before .before .before .before .match .rest)
+    (c .before .before .before .word-at .ensures ∙ ap (λ (i : ℕ). getD (a .row .now) i 0) (c .before .before .before .before .minus2 .ensures
+    ∙ ap (λ (i : ℕ). getD (a .m .now) 2 0 - i) (c .before .before .before .before .before .minus .ensures))))
     (c .access4 .ensures (omega arith) f _)))

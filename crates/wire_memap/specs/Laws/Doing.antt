@@ -13,14 +13,14 @@ use Rattle.wire.specs.declared.Remembered.{Remembered}
 pub data Phase : Type 0 where
   Only : Phase
   Unit : Phase
+  Last : Phase
   Posted : Phase
   Csw : Phase
   Tar : Phase
   Sent : Phase
   First : Phase
-  Pull : Phase
-  Last : Phase
   Push : Phase
+  Pull : Phase
 
 -- what is done once CSW and TAR stand
 pub data Kind : Type 0 where
@@ -48,10 +48,10 @@ pub record Reach : Type 0 where
   pub word : ℕ
 
 abbrev pub phases : List Phase
-phases = Only ∷ Unit ∷ Posted ∷ Csw ∷ Tar ∷ Sent ∷ First ∷ Pull ∷ Last ∷ []
+phases = Only ∷ Unit ∷ Last ∷ Posted ∷ Csw ∷ Tar ∷ Sent ∷ First ∷ Push ∷ []
 
 abbrev pub phaseOf : ℕ → Phase
-phaseOf n = getD phases n Push
+phaseOf n = getD phases n Pull
 
 abbrev pub kinds : List Kind
 kinds = ReadWord ∷ WriteWord ∷ ReadWords ∷ []
