@@ -3,6 +3,7 @@
 // Ported from arm-debug/src/lib.rs of ciniml/rust-dap.
 
 // What a call changes besides its transport calls: what is remembered, the row of words, the caller's buffer.
+ghost use mathlib.Core.Bool.{true};
 ghost use mathlib.Core.List.{[], _∷_};
 ghost use mathlib.Core.Path.{_≡_};
 ghost use Prim.Native.Nat.{_+_, _*_, _%_, _^_, _<_, min};
@@ -110,6 +111,25 @@ pub fn new() -> Remembered
         select: 0xFFFFFFFF,
         csw: false,
         apsel: 0,
+    }
+}
+
+// Whether a change is none.
+pub fn is_nothing(c: Change) -> bool
+    ensures { λ r. ⌜ (r ≡ true → c ≡ Change.Nothing) ⌝ }
+{
+    match c {
+        Change::Nothing => true,
+        Change::New => false,
+        Change::Forget => false,
+        Change::SelectZero => false,
+        Change::Apsel(_) => false,
+        Change::StoreWords { .. } => false,
+        Change::StorePart { .. } => false,
+        Change::LoadWords { .. } => false,
+        Change::Patch { .. } => false,
+        Change::Put { .. } => false,
+        Change::Registers { .. } => false,
     }
 }
 

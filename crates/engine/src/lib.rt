@@ -4,7 +4,6 @@ ghost use mathlib.Core.Bool.{false};
 ghost use mathlib.Core.List.{List};
 ghost use mathlib.Core.Path.{_≡_};
 ghost use Prim.Native.Nat.{ℕ};
-ghost use lib.Dec.{eqb};
 ghost use lib.ListN.{getD};
 ghost use Rattle.wire.specs.Laws.Flight.{outcomeOf, transferOf};
 ghost use Rattle.wire_numbers.specs.Results.{resultOf};
@@ -13,8 +12,8 @@ ghost use Rattle.call.specs.Change.{fresh};
 ghost use Rattle.engine_calls.specs.Calls.{lent, callTree};
 ghost use Rattle.engine.specs.Step.{Lent, Stepped, awaited};
 ghost use Rattle.engine.specs.Laws.Answer.{Answers};
-ghost use Rattle.engine.specs.Laws.State.{atOf, ownOf, stateTree};
-ghost use Rattle.engine.specs.Laws.Step.{storedAt, EndsIn, BeginsNext, Changes, AsksIn, StepsIn, StartedIn, SteppedIn};
+ghost use Rattle.engine.specs.Laws.State.{atOf, running, ownOf, stateTree};
+ghost use Rattle.engine.specs.Laws.Step.{storedAt, EndsIn, BeginsNext, Changes, AsksIn, FinishesIn, StepsIn, StartedIn, SteppedIn, TriesIn};
 use call::Asks;
 use call::At;
 use call::Change;
@@ -32,7 +31,7 @@ use wire_numbers::TransportCall;
 pub struct State {
     pub transfer: [u32; 7],
     pub op: [u32; 12],
-    pub call: [u32; 10],
+    pub call: [u32; 9],
 }
 
 // The transport call to make next, or how the call ended.
@@ -61,15 +60,16 @@ const D: usize = 4;
 
 const E: usize = 5;
 
-// 0: the call is under way; else it has ended with the outcome that the next two words tell.
+// How it stands: 0 and 1 under way, 2 and 3 ended, with the outcome that the next two words tell. Where it is odd, the call runs over
+// the caller's own words, and else over the row.
 const STATUS: usize = 6;
 
 const NUMBER: usize = 7;
 
 const VALUE: usize = 8;
 
-// 1: it runs over the caller's own words.
-const OWN: usize = 9;
+// The first status of a call that has ended.
+const ENDED: u32 = 2;
 
 // The engine before its first call: nothing is known of the target.
 pub fn new() -> Remembered
@@ -78,13 +78,13 @@ pub fn new() -> Remembered
     call::new()
 }
 
-fn at_of(c: &[u32; 10]) -> At
+fn at_of(c: &[u32; 9]) -> At
     ensures { λ r. ⌜ r ≡ atOf (now (c .entry)) ⌝ }
 {
     call::at_step(c[STEP], c[A], c[B], c[C], c[D], c[E])
 }
 
-fn store_at(c: &mut [u32; 10], at: At)
+fn store_at(c: &mut [u32; 9], at: At)
     ensures { λ _. ⌜ now (c .exit) ≡ storedAt at (now (c .entry)) ⌝ }
 {
     c[STEP] = at.step;
@@ -96,50 +96,47 @@ fn store_at(c: &mut [u32; 10], at: At)
 }
 
 // The call has ended.
-fn over(c: &mut [u32; 10], o: Outcome)
+fn over(c: &mut [u32; 9], o: Outcome)
     ensures { λ _. ⌜ EndsIn o (now (c .entry)) (now (c .exit)) ⌝ }
 {
     let x = wire::outcome_told(o);
-    c[STATUS] = 1;
+    c[STATUS] = ENDED + c[STATUS] % 2;
     c[NUMBER] = x.number;
     c[VALUE] = x.value;
 }
 
 // What is asked for is begun, or the call ends.
-fn begun(t: &mut [u32; 7], m: &mut [u32; 12], c: &mut [u32; 10], n: Next)
+fn begun(t: &mut [u32; 7], m: &mut [u32; 12], c: &mut [u32; 9], n: Next)
     ensures { λ _. ⌜ BeginsNext n (now (t .entry)) (now (m .entry)) (now (c .entry)) (now (t .exit)) (now (m .exit)) (now (c .exit)) ⌝ }
 {
     match n {
-        Next::Do(w) => {
-            c[STATUS] = 0;
-            wire_memap::op_start(t, m, w)
-        }
+        Next::Do(w) => wire_memap::op_start(t, m, w),
         Next::End(o) => over(c, o),
     }
 }
 
-fn changes(m: &mut [u32; 12], x: Change, ws: &mut [u32], buf: &mut [u8])
+// A change of what is kept. Most operations change nothing before them.
+fn change(m: &mut [u32; 12], x: Change, ws: &mut [u32], buf: &mut [u8])
+    ensures { λ _. ⌜ Changes x (now (m .entry)) (now (ws .entry)) (now (buf .entry)) (now (m .exit)) (now (ws .exit)) (now (buf .exit)) ⌝ }
 {
+    if call::is_nothing(x) {
+        return;
+    }
     let r = call::make_change(x, wire_memap::remembered(m), ws, buf);
     wire_memap::remember(m, r);
 }
-fn change(m: &mut [u32; 12], x: Change, ws: &mut [u32], buf: &mut [u8])
-{
-    match x {
-        Change::Nothing => {}
-        _ => changes(m, x, ws, buf),
-    }
-}
+
 // A change, and then what is asked for.
 fn asked(
     t: &mut [u32; 7],
     m: &mut [u32; 12],
-    c: &mut [u32; 10],
+    c: &mut [u32; 9],
     a: Asks,
     ws: &mut [u32],
     buf: &mut [u8],
 )
-    ensures { λ _. ⌜ AsksIn a (now (t .entry)) (now (m .entry)) (now (c .entry)) (now (ws .entry)) (now (buf .entry)) (now (t .exit)) (now (m .exit)) (now (c .exit)) (now (ws .exit)) (now (buf .exit)) ⌝ }
+    ensures { λ _. ⌜ AsksIn a (now (t .entry)) (now (m .entry)) (now (c .entry)) (now (ws .entry)) (now (buf .entry))
+        (now (t .exit)) (now (m .exit)) (now (c .exit)) (now (ws .exit)) (now (buf .exit)) ⌝ }
 {
     let x = a.change;
     let at = a.at;
@@ -149,27 +146,41 @@ fn asked(
     begun(t, m, c, n);
 }
 
+// What follows an operation that has come to the outcome o. At step 0 that is the call's.
+fn finished(
+    t: &mut [u32; 7],
+    m: &mut [u32; 12],
+    c: &mut [u32; 9],
+    o: Outcome,
+    ws: &mut [u32],
+    buf: &mut [u8],
+)
+    ensures { λ _. ⌜ FinishesIn o (now (t .entry)) (now (m .entry)) (now (c .entry)) (now (ws .entry)) (now (buf .entry))
+        (now (t .exit)) (now (m .exit)) (now (c .exit)) (now (ws .exit)) (now (buf .exit)) ⌝ }
+{
+    if c[STEP] == 0 {
+        over(c, o);
+        return;
+    }
+    let at = at_of(c);
+    asked(t, m, c, engine_calls::call_after(at, o), ws, buf);
+}
+
 // One step of a call under way, over the words of its runs.
 fn step_over(
     t: &mut [u32; 7],
     m: &mut [u32; 12],
-    c: &mut [u32; 10],
+    c: &mut [u32; 9],
     a: Answer,
     ws: &mut [u32],
     buf: &mut [u8],
 )
-    ensures { λ _. ⌜ StepsIn a (now (t .entry)) (now (m .entry)) (now (c .entry)) (now (ws .entry)) (now (buf .entry)) (now (t .exit)) (now (m .exit)) (now (c .exit)) (now (ws .exit)) (now (buf .exit)) ⌝ }
+    ensures { λ _. ⌜ StepsIn a (now (t .entry)) (now (m .entry)) (now (c .entry)) (now (ws .entry)) (now (buf .entry))
+        (now (t .exit)) (now (m .exit)) (now (c .exit)) (now (ws .exit)) (now (buf .exit)) ⌝ }
 {
     match wire_memap::op_step(t, m, a, ws) {
         Went::Moving => {}
-        Went::Finished(o) => {
-            if c[STEP] == 0 {
-                over(c, o);
-                return;
-            }
-            let at = at_of(c);
-            asked(t, m, c, engine_calls::call_after(at, o), ws, buf)
-        }
+        Went::Finished(o) => finished(t, m, c, o, ws, buf),
     }
 }
 
@@ -177,23 +188,24 @@ fn step_over(
 pub fn start_in(
     t: &mut [u32; 7],
     m: &mut [u32; 12],
-    c: &mut [u32; 10],
+    c: &mut [u32; 9],
     x: EngineCall,
     row: &mut [u32; 64],
     words: &mut [u32],
     buf: &mut [u8],
 )
-    ensures { λ _. ⌜ StartedIn x (now (t .entry)) (now (m .entry)) (now (c .entry)) (now (row .entry)) (now (words .entry)) (now (buf .entry)) (now (t .exit)) (now (m .exit)) (now (c .exit)) (now (row .exit)) (now (words .exit)) (now (buf .exit)) ⌝ }
+    ensures { λ _. ⌜ StartedIn x (now (t .entry)) (now (m .entry)) (now (c .entry)) (now (row .entry)) (now (words .entry)) (now (buf .entry))
+        (now (t .exit)) (now (m .exit)) (now (c .exit)) (now (row .exit)) (now (words .exit)) (now (buf .exit)) ⌝ }
 {
     let n = words.len();
     let k = buf.len();
     let a = engine_calls::call_start(x, n, k);
     if engine_calls::owns(x) {
-        c[OWN] = 1;
+        c[STATUS] = 1;
         asked(t, m, c, a, words, buf);
         return;
     }
-    c[OWN] = 0;
+    c[STATUS] = 0;
     asked(t, m, c, a, row, buf);
 }
 
@@ -203,16 +215,18 @@ pub fn start_in(
 pub fn step_in(
     t: &mut [u32; 7],
     m: &mut [u32; 12],
-    c: &mut [u32; 10],
+    c: &mut [u32; 9],
     a: Answer,
     row: &mut [u32; 64],
     words: &mut [u32],
     buf: &mut [u8],
 )
-    ensures { λ _. ⌜ SteppedIn a (now (t .entry)) (now (m .entry)) (now (c .entry)) (now (row .entry)) (now (words .entry)) (now (buf .entry)) (now (t .exit)) (now (m .exit)) (now (c .exit)) (now (row .exit)) (now (words .exit)) (now (buf .exit)) ⌝ }
+    ensures { λ _. ⌜ SteppedIn a (now (t .entry)) (now (m .entry)) (now (c .entry)) (now (row .entry)) (now (words .entry)) (now (buf .entry))
+        (now (t .exit)) (now (m .exit)) (now (c .exit)) (now (row .exit)) (now (words .exit)) (now (buf .exit)) ⌝ }
 {
-    if c[STATUS] == 0 {
-        if c[OWN] == 1 {
+    let status = c[STATUS];
+    if status < ENDED {
+        if status == 1 {
             step_over(t, m, c, a, words, buf);
             return;
         }
@@ -220,41 +234,32 @@ pub fn step_in(
     }
 }
 
-
-pub fn runs_in(t: &mut [u32; 7], m: &mut [u32; 12], c: &[u32; 10], v: u32, row: &mut [u32; 64]) -> bool
+// The step of a call over the row with the value v for an answer, where that is a word of a run and another follows: true, and it is
+// taken at once, as nearly all transfers of a memory call are such words; or false, and nothing is done.
+pub fn runs_in(t: &mut [u32; 7], m: &mut [u32; 12], c: &[u32; 9], v: u32, row: &mut [u32; 64]) -> bool
+    ensures { λ r. ⌜ TriesIn v r (now (t .entry)) (now (m .entry)) (now (c .entry)) (now (row .entry)) (now (t .exit)) (now (m .exit)) (now (row .exit)) ⌝ }
 {
     if c[STATUS] == 0 {
-        if c[OWN] != 1 {
-            return wire_memap::op_runs(t, m, v, row);
-        }
+        return wire_memap::op_runs(t, m, v, row);
     }
     false
 }
 
-pub fn value_in(
-    t: &mut [u32; 7],
-    m: &mut [u32; 12],
-    c: &mut [u32; 10],
-    v: u32,
-    row: &mut [u32; 64],
-    words: &mut [u32],
-    buf: &mut [u8],
-)
+// The same with the value of any access that another follows.
+pub fn moves_in(t: &mut [u32; 7], m: &mut [u32; 12], c: &[u32; 9], v: u32, row: &mut [u32; 64]) -> bool
+    ensures { λ r. ⌜ TriesIn v r (now (t .entry)) (now (m .entry)) (now (c .entry)) (now (row .entry)) (now (t .exit)) (now (m .exit)) (now (row .exit)) ⌝ }
 {
     if c[STATUS] == 0 {
-        if c[OWN] != 1 {
-            if wire_memap::op_moves(t, m, v, row) {
-                return;
-            }
-        }
+        return wire_memap::op_moves(t, m, v, row);
     }
-    step_in(t, m, c, Answer::Good(v), row, words, buf);
+    false
 }
+
 // What the words of a state say: the transport call that is due, or the ending.
-fn answer(t: [u32; 7], m: [u32; 12], c: [u32; 10]) -> StepAnswer
+fn answer(t: [u32; 7], m: [u32; 12], c: [u32; 9]) -> StepAnswer
     ensures { λ x. ⌜ Answers t m c x ⌝ }
 {
-    let running = c[STATUS] == 0;
+    let running = c[STATUS] < ENDED;
     let number = c[NUMBER];
     let value = c[VALUE];
     let s = State {
@@ -286,11 +291,12 @@ pub fn start(
     words: &mut [u32],
     buf: &mut [u8],
 ) -> StepAnswer
-    ensures { λ a. ⌜ Lent (lent x) (callTree x r (now (row .entry)) (now (words .entry)) (now (buf .entry))) a (now (row .entry)) (now (words .entry)) (now (row .exit)) (now (words .exit)) (now (buf .exit)) ⌝ }
+    ensures { λ a. ⌜ Lent (lent x) (callTree x r (now (row .entry)) (now (words .entry)) (now (buf .entry))) a
+        (now (row .entry)) (now (words .entry)) (now (row .exit)) (now (words .exit)) (now (buf .exit)) ⌝ }
 {
     let mut t = [0u32; 7];
     let mut m = [0u32; 12];
-    let mut c = [0u32; 10];
+    let mut c = [0u32; 9];
     wire_memap::remember(&mut m, r);
     start_in(&mut t, &mut m, &mut c, x, row, words, buf);
     answer(t, m, c)
@@ -305,7 +311,8 @@ pub fn step(
     words: &mut [u32],
     buf: &mut [u8],
 ) -> StepAnswer
-    ensures { λ x. ⌜ Stepped s a x (now (row .entry)) (now (words .entry)) (now (buf .entry)) (now (row .exit)) (now (words .exit)) (now (buf .exit)) ⌝ }
+    ensures { λ x. ⌜ Stepped s a x (now (row .entry)) (now (words .entry)) (now (buf .entry))
+        (now (row .exit)) (now (words .exit)) (now (buf .exit)) ⌝ }
 {
     let mut t = s.transfer;
     let mut m = s.op;
@@ -337,7 +344,7 @@ pub fn awaits(s: State) -> bool
     let t = s.transfer;
     let c = s.call;
     let status = c[STATUS];
-    if status == 0 {
+    if status < ENDED {
         return !wire::is_aborting(&t);
     }
     false
@@ -352,7 +359,7 @@ pub fn idle(r: Remembered) -> State
     State {
         transfer: [0u32; 7],
         op: m,
-        call: [0u32; 10],
+        call: [0u32; 9],
     }
 }
 
@@ -363,7 +370,8 @@ pub fn over_row(s: State) -> State
     let t = s.transfer;
     let m = s.op;
     let mut c = s.call;
-    c[OWN] = 0;
+    let status = c[STATUS];
+    c[STATUS] = status / 2 * 2;
     State {
         transfer: t,
         op: m,
@@ -372,14 +380,14 @@ pub fn over_row(s: State) -> State
 }
 
 // Whether the call is under way.
-pub fn is_running(c: &[u32; 10]) -> bool
-    ensures { λ r. ⌜ r ≡ eqb (getD (now (c .entry)) 6 0) 0 ⌝ }
+pub fn is_running(c: &[u32; 9]) -> bool
+    ensures { λ r. ⌜ r ≡ running (now (c .entry)) ⌝ }
 {
-    c[STATUS] == 0
+    c[STATUS] < ENDED
 }
 
 // How a call has ended.
-pub fn ending(c: &[u32; 10]) -> CallEnding
+pub fn ending(c: &[u32; 9]) -> CallEnding
     ensures { λ r. ⌜ r ≡ resultOf (outcomeOf (getD (now (c .entry)) 7 0) (getD (now (c .entry)) 8 0)) ⌝ }
 {
     wire_numbers::result_of(wire::outcome_at(c[NUMBER], c[VALUE]))

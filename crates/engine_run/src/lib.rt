@@ -36,7 +36,7 @@ fn limit_of(budget: u32, answers: &[u64]) -> u32
 fn turn(
     t: &mut [u32; 7],
     m: &mut [u32; 12],
-    c: &mut [u32; 10],
+    c: &mut [u32; 9],
     i: u32,
     answers: &[u64],
     row: &mut [u32; 64],
@@ -51,11 +51,13 @@ fn turn(
     let j = i as usize;
     let x = answers[j];
     if x < 0x100000000 {
-        if engine::runs_in(t, m, c, x as u32, row) {
+        let v = x as u32;
+        if engine::runs_in(t, m, c, v, row) {
             return;
         }
-        engine::value_in(t, m, c, x as u32, row, words, buf);
-        return;
+        if engine::moves_in(t, m, c, v, row) {
+            return;
+        }
     }
     engine::step_in(t, m, c, wire_numbers::answer_of(x), row, words, buf);
 }
@@ -64,7 +66,7 @@ fn turn(
 fn run_on(
     t: &mut [u32; 7],
     m: &mut [u32; 12],
-    c: &mut [u32; 10],
+    c: &mut [u32; 9],
     limit: u32,
     answers: &[u64],
     row: &mut [u32; 64],
@@ -87,7 +89,7 @@ fn run_on(
 }
 
 // How a run has ended: with its call, or with its budget.
-fn ending_of(c: &[u32; 10]) -> CallEnding
+fn ending_of(c: &[u32; 9]) -> CallEnding
     ensures { λ r. ⌜ r ≡ endingOf (endingIn (now (c .entry))) ⌝ }
 {
     if engine::is_running(c) {
@@ -120,7 +122,7 @@ pub fn run(
     let limit = limit_of(budget, answers);
     let mut t = [0u32; 7];
     let mut m = [0u32; 12];
-    let mut c = [0u32; 10];
+    let mut c = [0u32; 9];
     wire_memap::remember(&mut m, r);
     engine::start_in(&mut t, &mut m, &mut c, x, &mut row, words, buf);
     let n = run_on(

@@ -79,19 +79,19 @@ const UNIT: u32 = 1;
 
 const LAST_READ: u32 = 2;
 
-const POSTED: u32 = 3;
+const PULL: u32 = 3;
 
-const CSW_SENT: u32 = 4;
+const PUSH: u32 = 4;
 
-const TAR_SENT: u32 = 5;
+const POSTED: u32 = 5;
 
-const SENT: u32 = 6;
+const CSW_SENT: u32 = 6;
 
-const FIRST: u32 = 7;
+const TAR_SENT: u32 = 7;
 
-const PUSH: u32 = 8;
+const SENT: u32 = 8;
 
-const PULL: u32 = 9;
+const FIRST: u32 = 9;
 
 const SELECTING: u32 = 16;
 
@@ -280,8 +280,11 @@ fn follows(m: &[u32; 12]) -> bool
     ensures { λ r. ⌜ r ≡ following (now (m .entry)) ⌝ }
 {
     let phase = m[PHASE];
-    if phase == TAR_SENT {
-        return !is_empty(m);
+    if is_empty(m) {
+        if phase == TAR_SENT {
+            return false;
+        }
+        return LAST_READ < phase;
     }
     LAST_READ < phase
 }
@@ -298,16 +301,16 @@ fn move_on(t: &mut [u32; 7], m: &mut [u32; 12], v: u32, row: &mut [u32])
     }
     let n = m[LEFT];
     match phase {
-        3 => direct(t, m, ONLY, RDBUFF_READ, 0),
-        4 => tar_on(t, m),
-        5 => data_on(t, m, row),
-        6 => direct(t, m, UNIT, RDBUFF_READ, 0),
-        7 => pull_on(t, m, minus(n, 1)),
-        8 => push_on(t, m, minus(n, 1), row),
-        _ => {
+        3 => {
             place_word(row, minus(m[LAST], n), v);
             pull_on(t, m, minus(n, 1))
         }
+        4 => push_on(t, m, minus(n, 1), row),
+        5 => direct(t, m, ONLY, RDBUFF_READ, 0),
+        6 => tar_on(t, m),
+        7 => data_on(t, m, row),
+        8 => direct(t, m, UNIT, RDBUFF_READ, 0),
+        _ => pull_on(t, m, minus(n, 1)),
     }
 }
 
@@ -355,16 +358,16 @@ pub fn op_runs(t: &mut [u32; 7], m: &mut [u32; 12], v: u32, row: &mut [u32]) -> 
     let phase = m[PHASE];
     let n = m[LEFT];
     if 1 < n {
-        if phase == PULL {
-            place_word(row, minus(m[LAST], n), v);
-            m[LEFT] = n - 1;
-            direct(t, m, PULL, DRW_READ, 0);
-            return true;
-        }
         if phase == PUSH {
             let w = word_at(row, minus(m[LAST], n - 2));
             m[LEFT] = n - 1;
             direct(t, m, PUSH, DRW_WRITE, w);
+            return true;
+        }
+        if phase == PULL {
+            place_word(row, minus(m[LAST], n), v);
+            m[LEFT] = n - 1;
+            direct(t, m, PULL, DRW_READ, 0);
             return true;
         }
     }

@@ -1,6 +1,5 @@
--- The test of TAR decides both.
-use mathlib.Core.Bool.{not}
-use mathlib.Core.Path.{ap}
+-- TAR ends an empty run, and the first three phases any operation.
+use mathlib.Core.Path.{sym, _∙_}
 use borrow.Author.Tests.{eq-eqb, ne-eqb}
 use borrow.Author.Needs.{needs}
 use Rattle.wire_memap.proofs.follows.Statement.{statement}
@@ -9,4 +8,6 @@ use Rattle.wire_memap.proofs.follows.Tie as tie
 pub follows-spec : {M : Type 1} → statement M
 follows-spec =
     tie.close (tie.spec (λ c. search needs) (λ c κs. search needs)
-    (λ c. simp (eq-eqb _ _ (c .before .if1 .taken)) (ap not (c .is-empty .ensures))) (λ c. simp (ne-eqb _ _ (c .if1 .left))))
+    (λ c. simp (sym (c .before .before .is-empty .ensures) ∙ c .before .if1 .taken) (simp (eq-eqb _ _ (c .if2 .taken))))
+    (λ c. simp (sym (c .before .before .is-empty .ensures) ∙ c .before .if1 .taken) (simp (ne-eqb _ _ (c .if2 .left))))
+    (λ c. simp (sym (c .before .is-empty .ensures) ∙ c .if1 .left)))

@@ -14,13 +14,13 @@ pub data Phase : Type 0 where
   Only : Phase
   Unit : Phase
   Last : Phase
+  Pull : Phase
+  Push : Phase
   Posted : Phase
   Csw : Phase
   Tar : Phase
   Sent : Phase
   First : Phase
-  Push : Phase
-  Pull : Phase
 
 -- what is done once CSW and TAR stand
 pub data Kind : Type 0 where
@@ -48,10 +48,10 @@ pub record Reach : Type 0 where
   pub word : ℕ
 
 abbrev pub phases : List Phase
-phases = Only ∷ Unit ∷ Last ∷ Posted ∷ Csw ∷ Tar ∷ Sent ∷ First ∷ Push ∷ []
+phases = Only ∷ Unit ∷ Last ∷ Pull ∷ Push ∷ Posted ∷ Csw ∷ Tar ∷ Sent ∷ []
 
 abbrev pub phaseOf : ℕ → Phase
-phaseOf n = getD phases n Pull
+phaseOf n = getD phases n First
 
 abbrev pub kinds : List Kind
 kinds = ReadWord ∷ WriteWord ∷ ReadWords ∷ []

@@ -1,10 +1,10 @@
 -- What an access and an operation in flight stand for. Serves the proofs only: each phase names what follows its transfer.
 use Prim.Native.Nat.{ℕ, zero, suc, _+_, _-_, _%_, _<_, _≤_}
-use mathlib.Core.Bool.{Bool, true, false, not, true≢false}
+use mathlib.Core.Bool.{Bool, true, false, true≢false}
 use mathlib.Core.List.{List}
 use mathlib.Core.Path.{_≡_, refl, sym, ap, subst, _∙_}
 use native.Mathlib.Omega.{arith}
-use borrow.Author.Tests.{lt-leb, le-leb, eq-eqb, ne-eqb, ltb-true, ltb-false, eqb-true, not-true, not-false}
+use borrow.Author.Tests.{lt-leb, le-leb, eq-eqb, ne-eqb, ltb-true, ltb-false, eqb-true}
 use lib.Dec.{eqb, ltb}
 use lib.ListN.{set, getD, length-set}
 use Rattle.wire.specs.Wire.{Wire, Memory, follow}
@@ -210,18 +210,18 @@ pub pull-ends : (t m : List ℕ) {u v : List ℕ} (more : ℕ) → more ≡ 0 �
 unfolding pull
 pull-ends t m more z g ws f = begins-as g (begins-of (λ b k. rw z refl) (direct-begins 2 14 0 t m ws (omega arith) f))
 
-pub pull-goes : (t m : List ℕ) {u v : List ℕ} (more : ℕ) → (more ≡ 0 → ⊥) → (u ≡ begun 15 0 t) × (v ≡ set (set m 1 more) 0 9)
+pub pull-goes : (t m : List ℕ) {u v : List ℕ} (more : ℕ) → (more ≡ 0 → ⊥) → (u ≡ begun 15 0 t) × (v ≡ set (set m 1 more) 0 3)
     → Begun (pull (getD m 2 0) more) t m u v
 pull-goes t m more z g ws f = begins-as g (record { tree = λ b k. here b k ∙ there .tree b k; fits = there .fits; counted = there .counted })
   where
     m₁ : List ℕ
     m₁ = set m 1 more
 
-    there : Begins (λ k. transferring 15 0 (inPhase 9 m₁ k)) m₁ ws (begun 15 0 t) (set m₁ 0 9)
-    there = direct-begins 9 15 0 t m₁ ws (omega arith) (f .0, length-set m 1 more ∙ f .1)
+    there : Begins (λ k. transferring 15 0 (inPhase 3 m₁ k)) m₁ ws (begun 15 0 t) (set m₁ 0 3)
+    there = direct-begins 3 15 0 t m₁ ws (omega arith) (f .0, length-set m 1 more ∙ f .1)
 
-    here : (b : List ℕ) (k : Then) → pull (getD m 2 0) more k (stands m ws b) ≡ transferring 15 0 (inPhase 9 m₁ k) (stands m₁ ws b)
-    here b k = by-words (λ m. pull (getD m 2 0) more k (stands m ws b) ≡ transferring 15 0 (inPhase 9 (set m 1 more) k) (stands (set m 1 more) ws b))
+    here : (b : List ℕ) (k : Then) → pull (getD m 2 0) more k (stands m ws b) ≡ transferring 15 0 (inPhase 3 m₁ k) (stands m₁ ws b)
+    here b k = by-words (λ m. pull (getD m 2 0) more k (stands m ws b) ≡ transferring 15 0 (inPhase 3 (set m 1 more) k) (stands (set m 1 more) ws b))
         (λ m₀ m₁ m₂ m₃ m₄ m₅ m₆ m₇ m₈ m₉ m₁₀ m₁₁. pull-more m₂ more k _ z) m (f .1)
 
 -- a run of writes: RDBUFF, or one word more
@@ -231,18 +231,18 @@ unfolding push
 push-ends t m ws more z g f = begins-as g (begins-of (λ b k. rw z refl) (direct-begins 1 14 0 t m ws (omega arith) f))
 
 pub push-goes : (t m ws : List ℕ) {u v : List ℕ} (more w : ℕ) → (more ≡ 0 → ⊥) → w ≡ getD ws (getD m 2 0 - (more - 1)) 0
-    → (u ≡ begun 13 w t) × (v ≡ set (set m 1 more) 0 8) → BegunAt (push (getD m 2 0) more) ws t m u v
+    → (u ≡ begun 13 w t) × (v ≡ set (set m 1 more) 0 4) → BegunAt (push (getD m 2 0) more) ws t m u v
 push-goes t m ws more w z e g f = begins-as g (record { tree = λ b k. here b k ∙ there .tree b k; fits = there .fits; counted = there .counted })
   where
     m₁ : List ℕ
     m₁ = set m 1 more
 
-    there : Begins (λ k. transferring 13 w (inPhase 8 m₁ k)) m₁ ws (begun 13 w t) (set m₁ 0 8)
-    there = direct-begins 8 13 w t m₁ ws (omega arith) (f .0, length-set m 1 more ∙ f .1)
+    there : Begins (λ k. transferring 13 w (inPhase 4 m₁ k)) m₁ ws (begun 13 w t) (set m₁ 0 4)
+    there = direct-begins 4 13 w t m₁ ws (omega arith) (f .0, length-set m 1 more ∙ f .1)
 
-    here : (b : List ℕ) (k : Then) → push (getD m 2 0) more k (stands m ws b) ≡ transferring 13 w (inPhase 8 m₁ k) (stands m₁ ws b)
+    here : (b : List ℕ) (k : Then) → push (getD m 2 0) more k (stands m ws b) ≡ transferring 13 w (inPhase 4 m₁ k) (stands m₁ ws b)
     here b k = by-words (λ m. w ≡ getD ws (getD m 2 0 - (more - 1)) 0
-        → push (getD m 2 0) more k (stands m ws b) ≡ transferring 13 w (inPhase 8 (set m 1 more) k) (stands (set m 1 more) ws b))
+        → push (getD m 2 0) more k (stands m ws b) ≡ transferring 13 w (inPhase 4 (set m 1 more) k) (stands (set m 1 more) ws b))
         (λ m₀ m₁ m₂ m₃ m₄ m₅ m₆ m₇ m₈ m₉ m₁₀ m₁₁ e. rw e (push-more m₂ more k _ z)) m (f .1) e
 
 -- a tree that is an action goes on as the action, and one that is over ends
@@ -261,9 +261,13 @@ emptyRead kind left = cond (eqb kind 2) (eqb left 0) false
 abbrev pub empty : List ℕ → Bool
 empty m = emptyRead (getD m 3 0) (getD m 1 0)
 
+-- TAR is the last access of such a run
+abbrev pub endsAtTar : ℕ → Bool → Bool
+endsAtTar phase none = cond none (eqb phase 7) false
+
 -- whether one more access follows the value of the one in flight
 abbrev pub followsAt : ℕ → Bool → Bool
-followsAt phase none = cond (eqb phase 5) (not none) (ltb 2 phase)
+followsAt phase none = cond (endsAtTar phase none) false (ltb 2 phase)
 
 abbrev pub following : List ℕ → Bool
 following m = followsAt (getD m 0 0) (empty m)
@@ -273,7 +277,7 @@ dataAfter m = dataAt (kindOf (getD m 3 0)) (taskOf m) (getD m 1 0)
 
 -- a run of reads begins with the access that asks for its first word
 pub data-reads : (m ws : List ℕ) → getD m 3 0 ≡ 2 → empty m ≡ false
-    → (b : List ℕ) (k : Then) → dataAfter m k (stands m ws b) ≡ apAccess 15 DRW 0 (inPhase 7 m k) (stands m ws b)
+    → (b : List ℕ) (k : Then) → dataAfter m k (stands m ws b) ≡ apAccess 15 DRW 0 (inPhase 9 m k) (stands m ws b)
 data-reads m ws e h b k = simp e (simp none)
   where
     none : eqb (getD m 1 0) 0 ≡ false
@@ -281,10 +285,10 @@ data-reads m ws e h b k = simp e (simp none)
 
 -- a run of writes begins with the first of its words
 pub data-writes : (m ws : List ℕ) (w : ℕ) → noneBelow 3 (getD m 3 0) → w ≡ getD ws (getD m 2 0 - (getD m 1 0 - 1)) 0
-    → (b : List ℕ) (k : Then) → dataAfter m k (stands m ws b) ≡ apAccess 13 DRW w (inPhase 8 m k) (stands m ws b)
+    → (b : List ℕ) (k : Then) → dataAfter m k (stands m ws b) ≡ apAccess 13 DRW w (inPhase 4 m k) (stands m ws b)
 data-writes m ws w n e b k =
     ap (λ (x : Kind). dataAt x (taskOf m) (getD m 1 0) k (stands m ws b)) (sym (past-rows P.kinds (getD m 3 0) P.WriteWords n))
-    ∙ ap (λ (x : ℕ). apAccess 13 DRW x (inPhase 8 m k) (stands m ws b)) (sym e)
+    ∙ ap (λ (x : ℕ). apAccess 13 DRW x (inPhase 4 m k) (stands m ws b)) (sym e)
 
 -- what the code does after each answer, as trees over the words
 abbrev pub tarAfter : List ℕ → Action
@@ -318,15 +322,15 @@ raw-begins c t m u g ws f = let h = g (f .0) in record {
 }
 
 -- TAR once CSW is known
-pub tar-begins : (t m : List ℕ) {u v : List ℕ} → Accessed 5 5 4 (getD (set m 10 1) 4 0) t (set m 10 1) u v → Begun (tarAfter m) t m u v
+pub tar-begins : (t m : List ℕ) {u v : List ℕ} → Accessed 7 5 4 (getD (set m 10 1) 4 0) t (set m 10 1) u v → Begun (tarAfter m) t m u v
 tar-begins t m {u} {v} a ws f = record { tree = λ b k. here b k ∙ there .tree b k; fits = there .fits; counted = there .counted }
   where
-    there : Begins (λ k. apAccess 5 4 (getD (set m 10 1) 4 0) (inPhase 5 (set m 10 1) k)) (set m 10 1) ws u v
+    there : Begins (λ k. apAccess 5 4 (getD (set m 10 1) 4 0) (inPhase 7 (set m 10 1) k)) (set m 10 1) ws u v
     there = a (omega arith) (f .0, length-set m 10 1 ∙ f .1) ws
 
-    here : (b : List ℕ) (k : Then) → tarAfter m k (stands m ws b) ≡ apAccess 5 4 (getD (set m 10 1) 4 0) (inPhase 5 (set m 10 1) k) (stands (set m 10 1) ws b)
+    here : (b : List ℕ) (k : Then) → tarAfter m k (stands m ws b) ≡ apAccess 5 4 (getD (set m 10 1) 4 0) (inPhase 7 (set m 10 1) k) (stands (set m 10 1) ws b)
     here b k = by-words
-        (λ m. tarAfter m k (stands m ws b) ≡ apAccess 5 4 (getD (set m 10 1) 4 0) (inPhase 5 (set m 10 1) k) (stands (set m 10 1) ws b))
+        (λ m. tarAfter m k (stands m ws b) ≡ apAccess 5 4 (getD (set m 10 1) 4 0) (inPhase 7 (set m 10 1) k) (stands (set m 10 1) ws b))
         (λ m₀ m₁ m₂ m₃ m₄ m₅ m₆ m₇ m₈ m₉ m₁₀ m₁₁. refl) m (f .1)
 
 -- a task: TAR, or CSW before it
@@ -340,34 +344,34 @@ tasked-sized : (kind addr word n last : ℕ) (m : List ℕ) → OpSized m → Op
 tasked-sized kind addr word n last = by-words (λ m. OpSized (tasked kind addr word n last m)) (λ _ _ _ _ _ _ _ _ _ _ _ _. refl)
 
 module _ (kind addr word n last : ℕ) (t m : List ℕ) {u v : List ℕ} where
-  pub task-known : getD (tasked kind addr word n last m) 10 0 ≡ 1 → Accessed 5 5 4 addr t (tasked kind addr word n last m) u v
+  pub task-known : getD (tasked kind addr word n last m) 10 0 ≡ 1 → Accessed 7 5 4 addr t (tasked kind addr word n last m) u v
       → Begun (ensuringTask (taskBy kind addr word last) n) t m u v
   task-known e a ws f = record { tree = λ b k. here b k ∙ there .tree b k; fits = there .fits; counted = there .counted }
     where
       m₅ : List ℕ → List ℕ
       m₅ m = tasked kind addr word n last m
 
-      there : Begins (λ k. apAccess 5 4 addr (inPhase 5 (m₅ m) k)) (m₅ m) ws u v
+      there : Begins (λ k. apAccess 5 4 addr (inPhase 7 (m₅ m) k)) (m₅ m) ws u v
       there = a (omega arith) (f .0, tasked-sized kind addr word n last m (f .1)) ws
 
-      here : (b : List ℕ) (k : Then) → ensuringTask (taskBy kind addr word last) n k (stands m ws b) ≡ apAccess 5 4 addr (inPhase 5 (m₅ m) k) (stands (m₅ m) ws b)
+      here : (b : List ℕ) (k : Then) → ensuringTask (taskBy kind addr word last) n k (stands m ws b) ≡ apAccess 5 4 addr (inPhase 7 (m₅ m) k) (stands (m₅ m) ws b)
       here b k = by-words (λ m. getD (m₅ m) 10 0 ≡ 1
-          → ensuringTask (taskBy kind addr word last) n k (stands m ws b) ≡ apAccess 5 4 addr (inPhase 5 (m₅ m) k) (stands (m₅ m) ws b))
+          → ensuringTask (taskBy kind addr word last) n k (stands m ws b) ≡ apAccess 5 4 addr (inPhase 7 (m₅ m) k) (stands (m₅ m) ws b))
           (λ m₀ m₁ m₂ m₃ m₄ m₅ m₆ m₇ m₈ m₉ m₁₀ m₁₁ e. simp (eq-eqb _ _ e)) m (f .1) e
 
-  pub task-unknown : (getD (tasked kind addr word n last m) 10 0 ≡ 1 → ⊥) → Accessed 4 1 0 CSW-DEFAULT t (tasked kind addr word n last m) u v
+  pub task-unknown : (getD (tasked kind addr word n last m) 10 0 ≡ 1 → ⊥) → Accessed 6 1 0 CSW-DEFAULT t (tasked kind addr word n last m) u v
       → Begun (ensuringTask (taskBy kind addr word last) n) t m u v
   task-unknown e a ws f = record { tree = λ b k. here b k ∙ there .tree b k; fits = there .fits; counted = there .counted }
     where
       m₅ : List ℕ → List ℕ
       m₅ m = tasked kind addr word n last m
 
-      there : Begins (λ k. apAccess 1 0 CSW-DEFAULT (inPhase 4 (m₅ m) k)) (m₅ m) ws u v
+      there : Begins (λ k. apAccess 1 0 CSW-DEFAULT (inPhase 6 (m₅ m) k)) (m₅ m) ws u v
       there = a (omega arith) (f .0, tasked-sized kind addr word n last m (f .1)) ws
 
-      here : (b : List ℕ) (k : Then) → ensuringTask (taskBy kind addr word last) n k (stands m ws b) ≡ apAccess 1 0 CSW-DEFAULT (inPhase 4 (m₅ m) k) (stands (m₅ m) ws b)
+      here : (b : List ℕ) (k : Then) → ensuringTask (taskBy kind addr word last) n k (stands m ws b) ≡ apAccess 1 0 CSW-DEFAULT (inPhase 6 (m₅ m) k) (stands (m₅ m) ws b)
       here b k = by-words (λ m. (getD (m₅ m) 10 0 ≡ 1 → ⊥)
-          → ensuringTask (taskBy kind addr word last) n k (stands m ws b) ≡ apAccess 1 0 CSW-DEFAULT (inPhase 4 (m₅ m) k) (stands (m₅ m) ws b))
+          → ensuringTask (taskBy kind addr word last) n k (stands m ws b) ≡ apAccess 1 0 CSW-DEFAULT (inPhase 6 (m₅ m) k) (stands (m₅ m) ws b))
           (λ m₀ m₁ m₂ m₃ m₄ m₅ m₆ m₇ m₈ m₉ m₁₀ m₁₁ e. simp (ne-eqb _ _ e)) m (f .1) e
 
 -- the same tree
@@ -375,12 +379,19 @@ pub goes-as : {w v : List ℕ → Then → Wire} {r : Went} {t m ws : List ℕ} 
 goes-as e g = record { tree = λ b k. e b k ∙ g .tree b k; fits = g .fits; counted = g .counted }
 
 -- the word v of a run of reads, in the row rs with it
-pub value-pulls : (m ws : List ℕ) {rs : List ℕ} (v more : ℕ) → phaseOf (getD m 0 0) ≡ P.Pull → rs ≡ set ws (getD m 2 0 - getD m 1 0) v → more ≡ getD m 1 0 - 1
+pub value-pulls : (m ws : List ℕ) {rs : List ℕ} (v more : ℕ) → getD m 0 0 ≡ 3 → rs ≡ set ws (getD m 2 0 - getD m 1 0) v → more ≡ getD m 1 0 - 1
     → (b : List ℕ) (k : Then) → valueTree m v ws b k ≡ pull (getD m 2 0) more k (stands m rs b)
 value-pulls m ws {rs} v more p r e b k =
-    ap (λ (x : Phase). phaseAfter x (taskOf m) (getD m 1 0) k (stands m ws b) (Value v)) p
+    ap (λ (n : ℕ). phaseAfter (phaseOf n) (taskOf m) (getD m 1 0) k (stands m ws b) (Value v)) p
     ∙ ap (λ (x : List ℕ). pull (getD m 2 0) (getD m 1 0 - 1) k (stands m x b)) (sym r)
     ∙ ap (λ (x : ℕ). pull (getD m 2 0) x k (stands m rs b)) (sym e)
+
+-- the access that asks for a run's first word answers the one before
+pub value-first : (m ws : List ℕ) (v more : ℕ) → phaseOf (getD m 0 0) ≡ P.First → more ≡ getD m 1 0 - 1
+    → (b : List ℕ) (k : Then) → valueTree m v ws b k ≡ pull (getD m 2 0) more k (stands m ws b)
+value-first m ws v more p e b k =
+    ap (λ (x : Phase). phaseAfter x (taskOf m) (getD m 1 0) k (stands m ws b) (Value v)) p
+    ∙ ap (λ (n : ℕ). pull (getD m 2 0) n k (stands m ws b)) (sym e)
 
 -- the value of an access, and of the SELECT before it
 pub ended-value : (m ws : List ℕ) (v : ℕ) → getD m 0 0 < 16 → (b : List ℕ) (k : Then) → endedTree m (Value v) ws b k ≡ valueTree m v ws b k
@@ -413,12 +424,16 @@ ended-fails m ws e b k =
 abbrev pub Ends : ℕ → ℕ → List ℕ → List ℕ → List ℕ → Type 0
 Ends v r m ws rs = (b : List ℕ) (k : Then) → endedTree m (Value v) ws b k ≡ k (stands m rs b) (Value r)
 
+tar-last : (n : ℕ) (none : Bool) → endsAtTar n none ≡ true → (none ≡ true) × (n ≡ 7)
+tar-last n true h = (refl, eqb-true n 7 h)
+tar-last n false h = absurd (true≢false (sym h))
+
 -- a phase after which no access follows is one of the first three, or TAR's
-last-low : (n : ℕ) (none : Bool) → followsAt n none ≡ false → n ≤ 5
-last-low n none = by-tar (eqb n 5) refl
+last-low : (n : ℕ) (none : Bool) → followsAt n none ≡ false → n ≤ 7
+last-low n none = by-tar (endsAtTar n none) refl
   where
-    by-tar : (x : Bool) → eqb n 5 ≡ x → cond x (not none) (ltb 2 n) ≡ false → n ≤ 5
-    by-tar true e h = omega (arith, eqb-true n 5 e)
+    by-tar : (x : Bool) → endsAtTar n none ≡ x → cond x false (ltb 2 n) ≡ false → n ≤ 7
+    by-tar true e h = omega (arith, tar-last n none e .1)
     by-tar false e h = omega (arith, ltb-false 2 n h)
 
 -- such a phase by its number
@@ -437,21 +452,30 @@ empty-data m k s = by-kind (eqb (getD m 3 0) 2) refl
 
 -- neither a value that is handed on nor a run's last word
 pub ends-unit : (m ws : List ℕ) (v : ℕ) → (getD m 0 0 ≡ 0 → ⊥) → (getD m 0 0 ≡ 2 → ⊥) → following m ≡ false → Ends v 0 m ws ws
-ends-unit m ws v z l h = by-tar (eqb (getD m 0 0) 5) refl h
+ends-unit m ws v z l h = by-tar (endsAtTar (getD m 0 0) (empty m)) refl h
   where
-    by-tar : (x : Bool) → eqb (getD m 0 0) 5 ≡ x → cond x (not (empty m)) (ltb 2 (getD m 0 0)) ≡ false → Ends v 0 m ws ws
-    by-tar true e g = ends-at P.Tar m ws v 0 h (ap phaseOf (eqb-true (getD m 0 0) 5 e)) (λ b k. empty-data m k (stands m ws b) (not-false (empty m) g))
+    by-tar : (x : Bool) → endsAtTar (getD m 0 0) (empty m) ≡ x → cond x false (ltb 2 (getD m 0 0)) ≡ false → Ends v 0 m ws ws
+    by-tar true e g = let q = tar-last (getD m 0 0) (empty m) e in
+        ends-at P.Tar m ws v 0 h (ap phaseOf (q .1)) (λ b k. empty-data m k (stands m ws b) (q .0))
     by-tar false e g = ends-at P.Unit m ws v 0 h (ap phaseOf (one (getD m 0 0) z l (ltb-false 2 (getD m 0 0) g))) (λ b k. refl)
       where
         one : (n : ℕ) → (n ≡ 0 → ⊥) → (n ≡ 2 → ⊥) → n ≤ 2 → n ≡ 1
         one n z l g = omega arith
 
--- the phases after which one follows, as a match tells them
-pub more-data : (m : List ℕ) → getD m 0 0 ≡ 5 → following m ≡ true → empty m ≡ false
-more-data m e h = not-true (empty m) (simp e at h)
+-- the phases after which one follows
+pub more-data : (m : List ℕ) → getD m 0 0 ≡ 7 → following m ≡ true → empty m ≡ false
+more-data m e = by-none (empty m)
+  where
+    by-none : (x : Bool) → followsAt (getD m 0 0) x ≡ true → x ≡ false
+    by-none true h = absurd (true≢false (sym (simp (eq-eqb (getD m 0 0) 7 e) at h)))
+    by-none false h = refl
 
-pub pull-phase : (n : ℕ) (none : Bool) → followsAt n none ≡ true → noneFrom 3 6 n → phaseOf n ≡ P.Pull
-pull-phase n none h r = sym (past P.phases n P.Pull (from-least 3 6 n (ltb-true 2 n (simp (ne-eqb n 5 (r .0 .0 .0 .1)) at h)) r))
+follows-far : (n : ℕ) (x : Bool) → cond x false (ltb 2 n) ≡ true → 2 < n
+follows-far n true h = absurd (true≢false (sym h))
+follows-far n false h = ltb-true 2 n h
+
+pub first-phase : (n : ℕ) (none : Bool) → followsAt n none ≡ true → noneFrom 3 6 n → phaseOf n ≡ P.First
+first-phase n none h r = sym (past P.phases n P.First (from-least 3 6 n (follows-far n (endsAtTar n none) h) r))
 
 -- What a function that does nothing where it answers false leaves: the tree w goes on, or all is as it was.
 pub record Tries (w : List ℕ → Then → Wire) (r : Bool) (t₀ m₀ ws₀ t m ws : List ℕ) : Type 0 where
@@ -476,15 +500,15 @@ good-step t m ws v e h b k = by-mode (transferOf t .mode) (sym e ∙ h)
     by-mode W.raw q = refl
 
 -- the next word of a run
-pub runs-reads : (t m ws : List ℕ) {u w rs : List ℕ} (v i : ℕ) → getD m 0 0 ≡ 9 → 1 < getD m 1 0 → i ≡ getD m 2 0 - getD m 1 0 → rs ≡ set ws i v
-    → (u ≡ begun 15 0 t) × (w ≡ set (set m 1 (getD m 1 0 - 1)) 0 9) → Fits t m → Goes (endedTree m (Value v) ws) Moving u w rs
+pub runs-reads : (t m ws : List ℕ) {u w rs : List ℕ} (v i : ℕ) → getD m 0 0 ≡ 3 → 1 < getD m 1 0 → i ≡ getD m 2 0 - getD m 1 0 → rs ≡ set ws i v
+    → (u ≡ begun 15 0 t) × (w ≡ set (set m 1 (getD m 1 0 - 1)) 0 3) → Fits t m → Goes (endedTree m (Value v) ws) Moving u w rs
 runs-reads t m ws {rs = rs} v i p l at r g f =
     goes-of (λ b k. ended-value m ws v (omega (arith, p)) b k
-    ∙ value-pulls m ws v (getD m 1 0 - 1) (ap phaseOf p) (r ∙ ap (λ (j : ℕ). set ws j v) at) refl b k)
+    ∙ value-pulls m ws v (getD m 1 0 - 1) p (r ∙ ap (λ (j : ℕ). set ws j v) at) refl b k)
     (pull-goes t m (getD m 1 0 - 1) (λ z. absurd (omega (arith, z, l))) g rs f)
 
-pub runs-writes : (t m ws : List ℕ) {u w : List ℕ} (v i x : ℕ) → getD m 0 0 ≡ 8 → 1 < getD m 1 0 → i ≡ getD m 2 0 - (getD m 1 0 - 2) → x ≡ getD ws i 0
-    → (u ≡ begun 13 x t) × (w ≡ set (set m 1 (getD m 1 0 - 1)) 0 8) → Fits t m → Goes (endedTree m (Value v) ws) Moving u w ws
+pub runs-writes : (t m ws : List ℕ) {u w : List ℕ} (v i x : ℕ) → getD m 0 0 ≡ 4 → 1 < getD m 1 0 → i ≡ getD m 2 0 - (getD m 1 0 - 2) → x ≡ getD ws i 0
+    → (u ≡ begun 13 x t) × (w ≡ set (set m 1 (getD m 1 0 - 1)) 0 4) → Fits t m → Goes (endedTree m (Value v) ws) Moving u w ws
 runs-writes t m ws v i x p l at r g f =
     goes-of (λ b k. ended-value m ws v (omega (arith, p)) b k
     ∙ ap (λ (n : ℕ). phaseAfter (phaseOf n) (taskOf m) (getD m 1 0) k (stands m ws b) (Value v)) p)
