@@ -5,6 +5,8 @@
 // Transport calls and their answers, what the engine remembers, and one transfer with its WAIT retries.
 ghost use mathlib.Core.Path.{_≡_};
 ghost use Prim.Native.Nat.{_%_, _≤_};
+ghost use lib.Dec.{eqb};
+ghost use lib.ListN.{getD};
 ghost use Rattle.wire.specs.declared.Outcome.{Outcome};
 ghost use Rattle.wire.specs.declared.Went.the-variants.{Again};
 ghost use Rattle.wire.specs.Bytes.{patternNo, patternAt, patternBytes, padded};
@@ -302,8 +304,8 @@ fn once(t: &mut [u32; 7], kind: u32, byte: u32, other: u32, word: u32)
 }
 
 // The fixed sequences by number.
-fn pattern_no(p: Pattern) -> u32
-    ensures { λ r. ⌜ r ≡ patternNo p ⌝ }
+pub fn pattern_no(p: Pattern) -> u32
+    ensures { λ r. ⌜ (r ≡ patternNo p) × (r ≤ 7) × (patternAt r ≡ p) ⌝ }
 {
     match p {
         Pattern::ResetHigh => 0,
@@ -412,7 +414,7 @@ pub fn transfer_step(t: &mut [u32; 7], a: Answer) -> Went
     }
 }
 
-fn pattern_at(n: u32) -> Pattern
+pub fn pattern_at(n: u32) -> Pattern
     ensures { λ r. ⌜ r ≡ patternAt n ⌝ }
 {
     match n {
@@ -453,6 +455,26 @@ pub fn due(t: &[u32; 7]) -> Call
         },
         _ => Call::OutputEnable,
     }
+}
+
+// Whether the call in flight is a transfer, and then its request and its word.
+pub fn is_transfer(t: &[u32; 7]) -> bool
+    ensures { λ r. ⌜ r ≡ eqb (getD (now (t .entry)) 2 0) 0 ⌝ }
+{
+    t[KIND] == TRANSFER
+}
+
+pub fn request(t: &[u32; 7]) -> u8
+    ensures { λ r. ⌜ r ≡ getD (now (t .entry)) 3 0 % 256 ⌝ }
+{
+    let byte = t[BYTE];
+    (byte % 256) as u8
+}
+
+pub fn word(t: &[u32; 7]) -> u32
+    ensures { λ r. ⌜ r ≡ getD (now (t .entry)) 4 0 ⌝ }
+{
+    t[WORD]
 }
 
 // Whether the ABORT is in flight, whose answer is ignored.

@@ -1,11 +1,12 @@
 // Transport calls, answers and endings as numbers: what a step answers with, and what lists of numbers hold.
 ghost use mathlib.Core.Path.{_≡_};
-ghost use Prim.Native.Nat.{_+_, _/_, _≤_, min};
+ghost use Prim.Native.Nat.{_+_, _/_, min};
 ghost use lib.ListN.{take, set};
 ghost use Rattle.wire.specs.Bytes.{handed, padded, leBytes};
+ghost use Rattle.wire.specs.Laws.Flight.{transferOf};
 ghost use Rattle.wire_numbers.specs.Results.{errorNumber, errorValue, resultOf};
 ghost use Rattle.wire_numbers.specs.Numbers.{numbersOf};
-ghost use Rattle.wire_numbers.specs.Log.{answerOf, patternNo, patternAt, codeOf, callOf};
+ghost use Rattle.wire_numbers.specs.Log.{answerOf, codeOf, callOf};
 use wire::Answer;
 use wire::ArmError;
 use wire::Call;
@@ -300,21 +301,6 @@ pub fn answer_of(x: u64) -> Answer
     Answer::Other
 }
 
-fn pattern_no(p: Pattern) -> u64
-    ensures { λ x. ⌜ (x ≡ patternNo p) × (x ≤ 7) × (patternAt x ≡ p) ⌝ }
-{
-    match p {
-        Pattern::ResetHigh => 0,
-        Pattern::ResetIdle => 1,
-        Pattern::JtagToSwd => 2,
-        Pattern::SwdToDormant => 3,
-        Pattern::AlertHigh => 4,
-        Pattern::SelectionAlert => 5,
-        Pattern::AlertIdle => 6,
-        Pattern::SwdActivation => 7,
-    }
-}
-
 // The number of a transport call in the log.
 fn code_of(c: Call) -> u64
     ensures { λ x. ⌜ (x ≡ codeOf c) × (callOf x ≡ c) ⌝ }
@@ -323,8 +309,8 @@ fn code_of(c: Call) -> u64
         Call::Transfer { request, word } => (request as u64) * 0x100000000 + (word as u64),
         Call::Connect => 0x1000000000000,
         Call::Sequence(p) => {
-            let n = pattern_no(p);
-            0x2000000000000 + n
+            let n = wire::pattern_no(p);
+            0x2000000000000 + (n as u64)
         }
         Call::Pins {
             output,
@@ -339,6 +325,7 @@ fn code_of(c: Call) -> u64
     }
 }
 
+// A transport call, noted at place i of the log; a place outside is dropped.
 pub fn note(log: &mut [u64], i: u32, c: Call)
     ensures { λ _. ⌜ (now (log .exit) ≡ set (now (log .entry)) i (codeOf c)) × (callOf (codeOf c) ≡ c) ⌝ }
 {
@@ -349,31 +336,20 @@ pub fn note(log: &mut [u64], i: u32, c: Call)
     }
 }
 
-fn pattern_at(n: u64) -> Pattern
-    ensures { λ p. ⌜ p ≡ patternAt n ⌝ }
+// The call in flight, noted: most are transfers, whose number is made at once.
+pub fn note_due(log: &mut [u64], i: u32, t: &[u32; 7])
+    ensures { λ _. ⌜ (now (log .exit) ≡ set (now (log .entry)) i (codeOf (transferOf (now (t .entry)) .call)))
+        × (callOf (codeOf (transferOf (now (t .entry)) .call)) ≡ transferOf (now (t .entry)) .call) ⌝ }
 {
-    if n == 0 {
-        return Pattern::ResetHigh;
+    if wire::is_transfer(t) {
+        let c = Call::Transfer {
+            request: wire::request(t),
+            word: wire::word(t),
+        };
+        note(log, i, c);
+        return;
     }
-    if n == 1 {
-        return Pattern::ResetIdle;
-    }
-    if n == 2 {
-        return Pattern::JtagToSwd;
-    }
-    if n == 3 {
-        return Pattern::SwdToDormant;
-    }
-    if n == 4 {
-        return Pattern::AlertHigh;
-    }
-    if n == 5 {
-        return Pattern::SelectionAlert;
-    }
-    if n == 6 {
-        return Pattern::AlertIdle;
-    }
-    Pattern::SwdActivation
+    note(log, i, wire::due(t));
 }
 
 // The transport call that a number of the log stands for.
@@ -393,8 +369,7 @@ pub fn call_of(x: u64) -> Call
         return Call::Connect;
     }
     if kind == 2 {
-        let p = pattern_at(x % 0x100000000);
-        return Call::Sequence(p);
+        return Call::Sequence(wire::pattern_at(word));
     }
     if kind == 3 {
         return Call::Pins {
@@ -410,28 +385,4 @@ pub fn call_of(x: u64) -> Call
         };
     }
     Call::OutputEnable
-}
-
-fn put(log: &mut [u64], i: u32, x: u64)
-{
-    let j = i as usize;
-    if j < log.len() {
-        log[j] = x;
-    }
-}
-
-pub fn note_words(log: &mut [u64], i: u32, t: &[u32; 7])
-{
-    if t[2] == 0 {
-        put(log, i, ((t[3] % 256) as u64) * 0x100000000 + (t[4] as u64));
-        return;
-    }
-    note(log, i, wire::due(t))
-}
-
-pub fn answer_at(code: u32, value: u32) -> Answer {
-    if code == 0 { return Answer::Good(value); }
-    if code == 1 { return Answer::SwdError((value % 256) as u8); }
-    if code == 2 { return Answer::NotSupported; }
-    Answer::Other
 }

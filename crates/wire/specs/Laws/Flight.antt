@@ -7,9 +7,7 @@ use mathlib.Core.Bool.{Bool, true, false}
 use borrow.Author.Tests.{ne-eqb}
 use lib.Dec.{eqb}
 use lib.ListN.{length, getD, set}
-use Rattle.wire.specs.Bytes.{patternNo, patternAt}
-use Rattle.wire.specs.declared.Pattern.{Pattern}
-use Rattle.wire.specs.declared.Pattern.the-variants as P
+use Rattle.wire.specs.Bytes.{patternAt}
 use Rattle.wire.specs.Wire.{Wire, ask, tell, follow, Memory}
 use Rattle.wire.specs.declared.Answer.{Answer}
 use Rattle.wire.specs.Count.{Counted}
@@ -224,20 +222,7 @@ pub raw-begun : (kind x y word : ℕ) (t : List ℕ) {u : List ℕ} {c : Call} �
 raw-begun kind x y word t {u} {c} e h is = subst (λ (u : List ℕ). ((m : Memory) (k : Outcome → Wire) → T.raw m c k ≡ transferTree m (transferOf u) k) × Sized u × Counted u) (sym e)
     ((λ m k. ap (λ (c : Call). T.raw m c k) is ∙ raw-is kind x y word t h m k), raw-sized kind x y word t h, raw-counted kind x y word t h)
 
--- bytes and sequences come back from their words
-pub pattern-back : (p : Pattern) (n : ℕ) → n ≡ patternNo p → p ≡ patternAt n
-pattern-back p n h = subst (λ (i : ℕ). p ≡ patternAt i) (sym h) (back p)
-  where
-    back : (p : Pattern) → p ≡ patternAt (patternNo p)
-    back P.ResetHigh = refl
-    back P.ResetIdle = refl
-    back P.JtagToSwd = refl
-    back P.SwdToDormant = refl
-    back P.AlertHigh = refl
-    back P.SelectionAlert = refl
-    back P.AlertIdle = refl
-    back P.SwdActivation = refl
-
+-- bytes come back from their words
 pub transfer-back : (x : ℕ) {r word : ℕ} → x % 256 ≡ r → C.Transfer r word ≡ C.Transfer (x % 256) word
 transfer-back x e = simp e refl
 

@@ -1,10 +1,18 @@
 -- A transport call is what its number in the log says, as its fields are numbers of 8 and 32 bits. Serves the proofs only.
 use Prim.Native.Nat.{ℕ, _+_, _*_, _/_, _%_, _<_, _≤_}
-use mathlib.Core.Path.{_≡_}
+use mathlib.Core.Bool.{true}
+use mathlib.Core.List.{List}
+use mathlib.Core.Path.{_≡_, subst}
 use native.Mathlib.Omega.{arith}
+use borrow.Author.Tests.{eqb-true}
+use lib.Dec.{eqb}
+use lib.ListN.{set, getD}
+use Rattle.wire.specs.Bytes.{patternAt}
 use Rattle.wire.specs.declared.Pattern.{Pattern}
+use Rattle.wire.specs.Laws.Flight.{transferOf}
+use Rattle.wire.specs.declared.Call.{Call}
 use Rattle.wire.specs.declared.Call.the-variants as C
-use Rattle.wire_numbers.specs.Log.{patternAt, callOf}
+use Rattle.wire_numbers.specs.Log.{codeOf, callOf}
 
 module _ (a b w x : ℕ) (ha : a < 256) (hb : b < 256) (hw : w < 0x100000000) where
   pub reads-transfer : x ≡ b * 0x100000000 + w → callOf x ≡ C.Transfer b w
@@ -34,3 +42,13 @@ reads-sequence n p h e =
     let k : (0x2000000000000 + n) / 0x1000000000000 ≡ 2 = omega arith in
     let v : (0x2000000000000 + n) % 0x100000000 ≡ n = omega arith in
     simp (k, v, e)
+
+-- a call that is noted, under another name
+pub noted : (i : ℕ) (l : List ℕ) {l₂ : List ℕ} {c : Call} (d : Call) → d ≡ c → (l₂ ≡ set l i (codeOf d)) × (callOf (codeOf d) ≡ d)
+    → (l₂ ≡ set l i (codeOf c)) × (callOf (codeOf c) ≡ c)
+noted i l {l₂} d e h = subst (λ (c : Call). (l₂ ≡ set l i (codeOf c)) × (callOf (codeOf c) ≡ c)) e h
+
+-- the transfer in flight
+pub noted-transfer : (t : List ℕ) {request word : ℕ} → eqb (getD t 2 0) 0 ≡ true → request ≡ getD t 3 0 % 256 → word ≡ getD t 4 0
+    → C.Transfer request word ≡ transferOf t .call
+noted-transfer t z r w = simp (eqb-true (getD t 2 0) 0 z) (simp (r, w))
