@@ -371,7 +371,7 @@ pub fn over_row(s: State) -> State
     let m = s.op;
     let mut c = s.call;
     let status = c[STATUS];
-    c[STATUS] = status / 2 * 2;
+    c[STATUS] = status - status % 2;
     State {
         transfer: t,
         op: m,

@@ -1,9 +1,11 @@
 -- What comes next in the tree of a state is what its words tell. Serves the proofs only.
-use Prim.Native.Nat.{ℕ}
+use Prim.Native.Nat.{ℕ, _-_, _%_}
 use mathlib.Core.Bool.{Bool, true, false, not, cond}
 use mathlib.Core.List.{List, []}
 use mathlib.Core.Path.{_≡_, refl, sym, ap, subst, _∙_}
-use lib.Dec.{eqb}
+use native.Mathlib.Omega.{arith}
+use borrow.Author.Tests.{lt-ltb, le-ltb, ltb-true, ltb-false, ne-eqb}
+use lib.Dec.{eqb, ltb}
 use lib.ListN.{getD, set, replicate}
 use Rattle.wire.specs.Bytes.{handed, padded}
 use Rattle.wire.specs.Wire.{Wire, Memory, memoryOf, done, follow}
@@ -22,7 +24,7 @@ use Rattle.engine_calls.specs.Calls.{lent, callTree}
 use Rattle.engine_calls.specs.declared.EngineCall.{EngineCall}
 use Rattle.wire.specs.declared.Remembered.{Remembered}
 use Rattle.engine.specs.Step.{nextOf, bytesOf, memoryIn, awaited, CountedIn, Steps, Lent, Stepped}
-use Rattle.engine.specs.Laws.State.{Status, Running, Ended, statusAs, statusOf, ownOf, CallSized, flightTree, statusTree, wordsTree, stateTree, by-words}
+use Rattle.engine.specs.Laws.State.{Status, Running, Ended, statusAs, statusOf, ownOf, running, CallSized, flightTree, statusTree, wordsTree, stateTree, by-words}
 use Rattle.engine.specs.Laws.Step.{StandsFor, LentIn, StartedIn, SteppedIn}
 use Rattle.engine.specs.declared.NextStep.{NextStep}
 use Rattle.engine.specs.declared.NextStep.the-variants as N
@@ -45,7 +47,7 @@ pub record Answers (t m c : List ℕ) (x : StepAnswer) : Type 0 where
   pub words : x .state ≡ record { transfer = t; op = m; call = c }
   pub tells : (ws b : List ℕ) → Tells (wordsTree t m c ws b) (x .next) (x .bytes) (stands m ws b)
 
-pub answers-call : (t m c : List ℕ) (x : Call) {n : TransportCall} {bs : List ℕ} → eqb (getD c 6 0) 0 ≡ true → x ≡ transferOf t .call → n ≡ numbersOf x
+pub answers-call : (t m c : List ℕ) (x : Call) {n : TransportCall} {bs : List ℕ} → running c ≡ true → x ≡ transferOf t .call → n ≡ numbersOf x
     → bs ≡ padded (handed x) → Answers t m c (record { next = N.Make n; state = record { transfer = t; op = m; call = c }; bytes = bs })
 answers-call t m c x {n} {bs} z d h g = record {
   words = refl;
@@ -58,7 +60,7 @@ answers-call t m c x {n} {bs} z d h g = record {
     runs : (ws b : List ℕ) → wordsTree t m c ws b ≡ flightTree t m c ws b
     runs ws b = ap (λ (x : Bool). statusTree (statusAs x (outcomeOf (getD c 7 0) (getD c 8 0))) (flightTree t m c ws b) (stands m ws b)) z
 
-pub answers-end : (t m c : List ℕ) (o : Outcome) {e : CallEnding} → eqb (getD c 6 0) 0 ≡ false → o ≡ outcomeOf (getD c 7 0) (getD c 8 0) → e ≡ resultOf o
+pub answers-end : (t m c : List ℕ) (o : Outcome) {e : CallEnding} → running c ≡ false → o ≡ outcomeOf (getD c 7 0) (getD c 8 0) → e ≡ resultOf o
     → Answers t m c (record { next = N.Finish e; state = record { transfer = t; op = m; call = c }; bytes = padded [] })
 answers-end t m c o {e} z d h = record {
   words = refl;
@@ -100,7 +102,7 @@ stepped s {t} {m} {c} x f z g a = record {
 }
 
 pub started : {r : Remembered} {x : EngineCall} {m₀ row₀ words₀ b₀ t m c row words b : List ℕ} (y : StepAnswer) → Remembers r m₀
-    → StartedIn x (replicate 7 0) m₀ (replicate 10 0) row₀ words₀ b₀ t m c row words b → Answers t m c y
+    → StartedIn x (replicate 7 0) m₀ (replicate 9 0) row₀ words₀ b₀ t m c row words b → Answers t m c y
     → Lent (lent x) (callTree x r row₀ words₀ b₀) y row₀ words₀ row words b
 started {r} {x} {m₀} {row₀} {words₀} {b₀} {row = row} {words} {b} y h g a =
     subst (λ (r : Remembered). Lent (lent x) (callTree x r row₀ words₀ b₀) y row₀ words₀ row words b) (h .is) (answered y (g .lent (refl, h .sized) refl) a)
@@ -111,18 +113,30 @@ flight-awaited D.trying m t k = refl
 flight-awaited D.aborting m t k = refl
 flight-awaited D.raw m t k = refl
 
-pub awaits-answer : (s : State) {x : Bool} → eqb (getD (s .call) 6 0) 0 ≡ true → x ≡ D.ignoring (transferOf (s .transfer) .mode)
+pub awaits-answer : (s : State) {x : Bool} → running (s .call) ≡ true → x ≡ D.ignoring (transferOf (s .transfer) .mode)
     → (ws b : List ℕ) → not x ≡ awaited (stateTree s ws b)
 awaits-answer s z h ws b =
     ap not h ∙ flight-awaited (transferOf (s .transfer) .mode) (stands (s .op) ws b) (transferOf (s .transfer)) _
     ∙ ap (λ (y : Bool). awaited (statusTree (statusAs y (outcomeOf (getD (s .call) 7 0) (getD (s .call) 8 0)))
     (flightTree (s .transfer) (s .op) (s .call) ws b) (stands (s .op) ws b))) (sym z)
 
-pub awaits-none : (s : State) → eqb (getD (s .call) 6 0) 0 ≡ false → (ws b : List ℕ) → false ≡ awaited (stateTree s ws b)
+pub awaits-none : (s : State) → running (s .call) ≡ false → (ws b : List ℕ) → false ≡ awaited (stateTree s ws b)
 awaits-none s z ws b =
     ap (λ (y : Bool). awaited (statusTree (statusAs y (outcomeOf (getD (s .call) 7 0) (getD (s .call) 8 0)))
     (flightTree (s .transfer) (s .op) (s .call) ws b) (stands (s .op) ws b))) (sym z)
 
-pub over-row-is : (t m c : List ℕ) → CallSized c → ((ws b : List ℕ) → wordsTree t m (set c 9 0) ws b ≡ wordsTree t m c ws b) × (ownOf (set c 9 0) ≡ false)
-over-row-is t m = by-words (λ c. ((ws b : List ℕ) → wordsTree t m (set c 9 0) ws b ≡ wordsTree t m c ws b) × (ownOf (set c 9 0) ≡ false))
-    (λ _ _ _ _ _ _ _ _ _ _. ((λ ws b. refl), refl))
+-- an even number says the same of a call, over the row
+even-runs : (n : ℕ) → ltb (n - n % 2) 2 ≡ ltb n 2
+even-runs n = by-runs (ltb n 2) refl
+  where
+    by-runs : (x : Bool) → ltb n 2 ≡ x → ltb (n - n % 2) 2 ≡ x
+    by-runs true e = lt-ltb (n - n % 2) 2 (omega (arith, ltb-true n 2 e))
+    by-runs false e = le-ltb (n - n % 2) 2 (omega (arith, ltb-false n 2 e))
+
+even-own : (n : ℕ) → eqb ((n - n % 2) % 2) 1 ≡ false
+even-own n = ne-eqb ((n - n % 2) % 2) 1 (λ q. omega (arith, q))
+
+pub over-row-is : (t m c : List ℕ) → CallSized c
+    → ((ws b : List ℕ) → wordsTree t m (set c 6 (getD c 6 0 - getD c 6 0 % 2)) ws b ≡ wordsTree t m c ws b) × (ownOf (set c 6 (getD c 6 0 - getD c 6 0 % 2)) ≡ false)
+over-row-is t m = by-words (λ c. ((ws b : List ℕ) → wordsTree t m (set c 6 (getD c 6 0 - getD c 6 0 % 2)) ws b ≡ wordsTree t m c ws b) × (ownOf (set c 6 (getD c 6 0 - getD c 6 0 % 2)) ≡ false))
+    (λ _ _ _ _ _ _ n _ _. ((λ ws b. rw (even-runs n) refl), even-own n))

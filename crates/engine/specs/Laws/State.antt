@@ -1,11 +1,11 @@
 -- The words of a call under way, and what a state stands for. Serves the proofs, but for two rows that are to be read: an ended state
 -- stands for its end (`statusTree`), and whose words a call runs over is a word of its state (`ownOf`). That the state of a call under
 -- way stands for the right tree is what `start` and `step` show.
-use Prim.Native.Nat.{ℕ}
+use Prim.Native.Nat.{ℕ, _%_}
 use mathlib.Core.Bool.{Bool, true, false}
 use mathlib.Core.List.{List, [], _∷_}
 use mathlib.Core.Path.{_≡_, refl, sym, subst, _∙_}
-use lib.Dec.{eqb}
+use lib.Dec.{eqb, ltb}
 use lib.ListN.{length, getD}
 use Rattle.wire.specs.Wire.{Wire, Memory, done, ask, tell}
 use Rattle.wire.specs.Laws.Flight.{outcomeOf, Mode, Transfer, transferOf, flight}
@@ -37,15 +37,19 @@ abbrev pub statusAs : Bool → Outcome → Status
 statusAs true o = Running
 statusAs false o = Ended o
 
-abbrev pub statusOf : List ℕ → Status
-statusOf c = statusAs (eqb (getD c 6 0) 0) (outcomeOf (getD c 7 0) (getD c 8 0))
+-- How it stands: 0 and 1 under way, 2 and more ended.
+abbrev pub running : List ℕ → Bool
+running c = ltb (getD c 6 0) 2
 
--- whether it runs over the caller's own words
+abbrev pub statusOf : List ℕ → Status
+statusOf c = statusAs (running c) (outcomeOf (getD c 7 0) (getD c 8 0))
+
+-- whether it runs over the caller's own words: where that number is odd
 abbrev pub ownOf : List ℕ → Bool
-ownOf c = eqb (getD c 9 0) 1
+ownOf c = eqb (getD c 6 0 % 2) 1
 
 abbrev pub CallSized : List ℕ → Type 0
-CallSized c = length c ≡ 10
+CallSized c = length c ≡ 9
 
 -- what is in flight, over the words of its run and the caller's buffer
 abbrev pub flightTree : List ℕ → List ℕ → List ℕ → List ℕ → List ℕ → Wire
@@ -62,9 +66,9 @@ wordsTree t m c ws b = statusTree (statusOf c) (flightTree t m c ws b) (stands m
 abbrev pub stateTree : State → List ℕ → List ℕ → Wire
 stateTree s ws b = wordsTree (s .transfer) (s .op) (s .call) ws b
 
--- a list of ten words is its ten words
-pub by-words : (Q : List ℕ → Type 0) → ((a b c d e f g h i j : ℕ) → Q (a ∷ b ∷ c ∷ d ∷ e ∷ f ∷ g ∷ h ∷ i ∷ j ∷ [])) → (c : List ℕ) → CallSized c → Q c
-by-words Q q c s = subst Q (spelled 10 c s) (q _ _ _ _ _ _ _ _ _ _)
+-- a list of nine words is its nine words
+pub by-words : (Q : List ℕ → Type 0) → ((a b c d e f g h i : ℕ) → Q (a ∷ b ∷ c ∷ d ∷ e ∷ f ∷ g ∷ h ∷ i ∷ [])) → (c : List ℕ) → CallSized c → Q c
+by-words Q q c s = subst Q (spelled 9 c s) (q _ _ _ _ _ _ _ _ _)
 
 -- a transport call is due
 abbrev pub Waits : Wire → Type 0

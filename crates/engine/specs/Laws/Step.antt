@@ -1,10 +1,11 @@
 -- What the stores of the code leave, and why the words of a state stand for the rest of the call. Serves the proofs only.
-use Prim.Native.Nat.{ℕ}
-use mathlib.Core.Bool.{Bool, true, false, cond}
+use Prim.Native.Nat.{ℕ, _+_, _%_, _<_}
+use mathlib.Core.Bool.{Bool, true, false, cond, true≢false}
 use mathlib.Core.List.{List, []}
 use mathlib.Core.Path.{_≡_, refl, sym, ap, subst, _∙_}
 use native.Mathlib.Omega.{arith}
-use lib.Dec.{eqb}
+use borrow.Author.Tests.{lt-ltb, le-ltb}
+use lib.Dec.{eqb, ltb}
 use lib.ListN.{set, length, getD}
 use Rattle.wire.specs.Bytes.{handed, padded}
 use Rattle.wire.specs.Wire.{Wire, Memory, memoryOf, done, follow}
@@ -12,29 +13,31 @@ use Rattle.wire.specs.declared.Remembered.{Remembered}
 use Rattle.wire.specs.Count.{Counted}
 use Rattle.wire.specs.Laws.Flight.{outcomeOf, Mode, trying, aborting, raw, Transfer, transferOf, flight}
 use Rattle.wire.specs.declared.Answer.{Answer}
+use Rattle.wire.specs.declared.Answer.the-variants.{Good}
 use Rattle.wire.specs.declared.Outcome.{Outcome}
 use Rattle.wire.specs.declared.Call.{Call}
 use Rattle.wire_numbers.specs.Results.{resultOf}
 use Rattle.wire_numbers.specs.Numbers.{numbersOf}
 use Rattle.wire_memap.specs.Ops.{perform}
 use Rattle.wire_memap.specs.Laws.Doing.{OpSized, rememberedOf, stands, Remembers}
-use Rattle.wire_memap.specs.Laws.Flight.{Fits, Begins, Begun, Goes, stepTree, startedTree}
+use Rattle.wire_memap.specs.Laws.Flight.{Fits, Begins, Begun, Goes, Tries, stepTree, startedTree}
 use Rattle.wire_memap.specs.declared.Op.{Op}
 use Rattle.wire_memap.specs.declared.Went.{Went}
 use Rattle.wire_memap.specs.declared.Went.the-variants.{Moving, Finished}
 use Rattle.call.specs.Change.{changed}
-use Rattle.call.specs.Job.{Job, exec}
+use Rattle.call.specs.Job.{Job, ends, exec}
 use Rattle.call.specs.Laws.Asks.{thenOf, nextJob, exec-op, then-is}
 use Rattle.call.specs.declared.At.{At}
 use Rattle.call.specs.declared.Asks.{Asks}
 use Rattle.call.specs.declared.Next.{Next}
 use Rattle.call.specs.declared.Next.the-variants.{Do, End}
 use Rattle.call.specs.declared.Change.{Change}
-use Rattle.engine_calls.specs.Laws.After.{callAfter, asksJob, asks-next}
+use Rattle.call.specs.declared.Change.the-variants as C
+use Rattle.engine_calls.specs.Laws.After.{callAfter, asksJob, asks-next, whole-after}
 use Rattle.engine_calls.specs.Calls.{jobOf, callTree}
 use Rattle.engine_calls.specs.Calls as E
 use Rattle.engine_calls.specs.declared.EngineCall.{EngineCall}
-use Rattle.engine.specs.Laws.State.{Status, Running, Ended, which, atOf, statusAs, statusOf, ownOf, CallSized, flightTree, statusTree, wordsTree, stateTree, by-words}
+use Rattle.engine.specs.Laws.State.{Status, Running, Ended, which, atOf, statusAs, running, statusOf, ownOf, CallSized, flightTree, statusTree, wordsTree, stateTree, by-words}
 use Rattle.engine.specs.Step.{CountedIn}
 
 -- the stores of the code
@@ -42,7 +45,7 @@ abbrev pub storedAt : At → List ℕ → List ℕ
 storedAt at c = set (set (set (set (set (set c 0 (at .step)) 1 (at .a)) 2 (at .b)) 3 (at .c)) 4 (at .d)) 5 (at .e)
 
 abbrev pub endedAs : ℕ → ℕ → List ℕ → List ℕ
-endedAs number value c = set (set (set c 6 1) 7 number) 8 value
+endedAs number value c = set (set (set c 6 (2 + getD c 6 0 % 2)) 7 number) 8 value
 
 -- a call that has ended with o
 abbrev pub EndsIn : Outcome → List ℕ → List ℕ → Type 0
@@ -50,7 +53,10 @@ EndsIn o c₀ c = CallSized c₀ → (statusOf c ≡ Ended o) × CallSized c × 
 
 pub ends-in : (o : Outcome) (n v : ℕ) (c : List ℕ) → outcomeOf n v ≡ o → EndsIn o c (endedAs n v c)
 ends-in o n v c e = by-words (λ c. (statusOf (endedAs n v c) ≡ Ended o) × CallSized (endedAs n v c) × (ownOf (endedAs n v c) ≡ ownOf c))
-    (λ _ _ _ _ _ _ _ _ _ _. (ap Ended e, refl, refl)) c
+    (λ _ _ _ _ _ _ w _ _. (simp (le-ltb (2 + w % 2) 2 (omega arith)) (ap Ended e), refl, ap (λ (x : ℕ). eqb x 1) (kept w))) c
+  where
+    kept : (w : ℕ) → (2 + w % 2) % 2 ≡ w % 2
+    kept w = omega arith
 
 -- The words t, m and c stand for the tree w, over the words ws and the buffer b; `own` says whose words ws are.
 pub record StandsFor (w : Wire) (own : Bool) (t m c ws b : List ℕ) : Type 0 where
@@ -63,36 +69,39 @@ pub record StandsFor (w : Wire) (own : Bool) (t m c ws b : List ℕ) : Type 0 wh
 pub stands-for : {w v : Wire} {own : Bool} {t m c ws b : List ℕ} → w ≡ v → StandsFor v own t m c ws b → StandsFor w own t m c ws b
 stands-for {own = own} {t} {m} {c} {ws} {b} e g = subst (λ (x : Wire). StandsFor x own t m c ws b) (sym e) g
 
--- what is asked for is begun, or the call ends
+-- what a call under way asks for is begun, or it ends
 pub record BeginsNext (n : Next) (t₀ m₀ c₀ t m c : List ℕ) : Type 0 where
-  pub next : Fits t₀ m₀ → CallSized c₀ → (ws b : List ℕ)
+  pub next : statusOf c₀ ≡ Running → Fits t₀ m₀ → CallSized c₀ → (ws b : List ℕ)
       → StandsFor (exec (nextJob n (callAfter (atOf c₀))) (stands m₀ ws b)) (ownOf c₀) t m c ws b
 
-pub next-does : (w : Op) (t₀ m₀ c₀ t m : List ℕ) → Begun (perform w) t₀ m₀ t m → BeginsNext (Do w) t₀ m₀ c₀ t m (set c₀ 6 0)
-next-does w t₀ m₀ c₀ t m g = record {
-  next = λ f s ws b. by-words
-      (λ c. StandsFor (exec (nextJob (Do w) (callAfter (atOf c))) (stands m₀ ws b)) (ownOf c) t m (set c 6 0) ws b)
-      (λ x₀ x₁ x₂ x₃ x₄ x₅ _ _ _ _. record {
-        tree = let k = callAfter (record { step = x₀; a = x₁; b = x₂; c = x₃; d = x₄; e = x₅ }) in
-            exec-op w k (stands m₀ ws b) ∙ g ws f .tree b (thenOf k);
-        fits = g ws f .fits;
-        sized = refl;
-        whose = refl;
-        counted = g ws f .counted;
-      }) c₀ s;
-}
-
-pub next-ends : (o : Outcome) (t₀ m₀ c₀ c : List ℕ) → EndsIn o c₀ c → BeginsNext (End o) t₀ m₀ c₀ t₀ m₀ c
-unfolding exec
-next-ends o t₀ m₀ c₀ c g = record {
-  next = λ f s ws b. let e = g s in record {
-    tree = ap (λ (d : Status). statusTree d (flightTree t₀ m₀ c ws b) (stands m₀ ws b)) (sym (e .0));
-    fits = f;
-    sized = e .1;
-    whose = e .2;
-    counted = subst (λ (d : Status). CountedIn d t₀) (sym (e .0)) tt;
+pub next-does : (w : Op) (t₀ m₀ c t m : List ℕ) → Begun (perform w) t₀ m₀ t m → BeginsNext (Do w) t₀ m₀ c t m c
+next-does w t₀ m₀ c t m g = record {
+  next = λ run f s ws b. record {
+    tree = exec-op w (callAfter (atOf c)) (stands m₀ ws b) ∙ g ws f .tree b (thenOf (callAfter (atOf c)))
+        ∙ ap (λ (d : Status). statusTree d (flightTree t m c ws b) (stands m ws b)) (sym run);
+    fits = g ws f .fits;
+    sized = s;
+    whose = refl;
+    counted = subst (λ (d : Status). CountedIn d t) (sym run) (g ws f .counted);
   };
 }
+
+-- a call that has ended with o stands for that end
+ends-for : (o : Outcome) (t m c₀ c ws b : List ℕ) → EndsIn o c₀ c → Fits t m → CallSized c₀ → StandsFor (done (stands m ws b) o) (ownOf c₀) t m c ws b
+ends-for o t m c₀ c ws b g f s = let e = g s in record {
+  tree = ap (λ (d : Status). statusTree d (flightTree t m c ws b) (stands m ws b)) (sym (e .0));
+  fits = f;
+  sized = e .1;
+  whose = e .2;
+  counted = subst (λ (d : Status). CountedIn d t) (sym (e .0)) tt;
+}
+
+exec-ends : (o : Outcome) (m : Memory) → exec (ends o) m ≡ done m o
+unfolding exec
+exec-ends o m = refl
+
+pub next-ends : (o : Outcome) (t₀ m₀ c₀ c : List ℕ) → EndsIn o c₀ c → BeginsNext (End o) t₀ m₀ c₀ t₀ m₀ c
+next-ends o t₀ m₀ c₀ c g = record { next = λ run f s ws b. stands-for (exec-ends o (stands m₀ ws b)) (ends-for o t₀ m₀ c₀ c ws b g f s) }
 
 -- a change of what is kept
 pub record Changes (x : Change) (m₀ ws₀ b₀ m ws b : List ℕ) : Type 0 where
@@ -105,17 +114,24 @@ changes-in x m₀ ws₀ b₀ {ws = ws} {b} e h g = record {
       (ap (λ (r : Remembered). changed x (memoryOf r ws₀ b₀)) (sym e) ∙ h ∙ ap (λ (r : Remembered). memoryOf r ws b) (sym (g s .is)), g s .sized);
 }
 
+-- a change that is none
+pub changes-none : (x : Change) (m ws b : List ℕ) → x ≡ C.Nothing → Changes x m ws b m ws b
+changes-none x m ws b e = record { made = λ s. (ap (λ (y : Change). changed y (stands m ws b)) e, s) }
+
 -- where an operation of the call is in flight, and what it asks for then
-stored-at : (at : At) (c : List ℕ) → CallSized c → (atOf (storedAt at c) ≡ at) × CallSized (storedAt at c) × (ownOf (storedAt at c) ≡ ownOf c)
-stored-at at = by-words (λ c. (atOf (storedAt at c) ≡ at) × CallSized (storedAt at c) × (ownOf (storedAt at c) ≡ ownOf c))
-    (λ _ _ _ _ _ _ _ _ _ _. (refl, refl, refl))
+abbrev Stored : At → List ℕ → Type 0
+Stored at c = (atOf (storedAt at c) ≡ at) × CallSized (storedAt at c) × (ownOf (storedAt at c) ≡ ownOf c) × (statusOf (storedAt at c) ≡ statusOf c)
+
+stored-at : (at : At) (c : List ℕ) → CallSized c → Stored at c
+stored-at at = by-words (Stored at) (λ _ _ _ _ _ _ _ _ _. (refl, refl, refl, refl))
 
 pub record AsksIn (a : Asks) (t₀ m₀ c₀ ws₀ b₀ t m c ws b : List ℕ) : Type 0 where
-  pub asks : Fits t₀ m₀ → CallSized c₀ → StandsFor (exec (asksJob a) (stands m₀ ws₀ b₀)) (ownOf c₀) t m c ws b
+  pub asks : statusOf c₀ ≡ Running → Fits t₀ m₀ → CallSized c₀ → StandsFor (exec (asksJob a) (stands m₀ ws₀ b₀)) (ownOf c₀) t m c ws b
 
 asked-at : (a : Asks) (t₀ m₀ c₀ ws₀ b₀ m₁ c₁ t m c ws b : List ℕ) → c₁ ≡ storedAt (a .at) c₀ → Changes (a .change) m₀ ws₀ b₀ m₁ ws b
-    → BeginsNext (a .next) t₀ m₁ c₁ t m c → Fits t₀ m₀ → CallSized c₀ → StandsFor (exec (asksJob a) (stands m₀ ws₀ b₀)) (ownOf c₀) t m c ws b
-asked-at a t₀ m₀ c₀ ws₀ b₀ m₁ c₁ t m c ws b at ch g f s = record {
+    → BeginsNext (a .next) t₀ m₁ c₁ t m c → statusOf c₀ ≡ Running → Fits t₀ m₀ → CallSized c₀
+    → StandsFor (exec (asksJob a) (stands m₀ ws₀ b₀)) (ownOf c₀) t m c ws b
+asked-at a t₀ m₀ c₀ ws₀ b₀ m₁ c₁ t m c ws b at ch g run f s = record {
   tree = asks-next a (stands m₀ ws₀ b₀) (stands m₁ ws b) (x .0) ∙ ap (λ (p : At). exec (nextJob (a .next) (callAfter p)) (stands m₁ ws b)) (sym (y .0)) ∙ z .tree;
   fits = z .fits;
   sized = z .sized;
@@ -126,11 +142,11 @@ asked-at a t₀ m₀ c₀ ws₀ b₀ m₁ c₁ t m c ws b at ch g f s = record {
     x : (changed (a .change) (stands m₀ ws₀ b₀) ≡ stands m₁ ws b) × OpSized m₁
     x = ch .made (f .1)
 
-    y : (atOf (storedAt (a .at) c₀) ≡ a .at) × CallSized (storedAt (a .at) c₀) × (ownOf (storedAt (a .at) c₀) ≡ ownOf c₀)
+    y : Stored (a .at) c₀
     y = stored-at (a .at) c₀ s
 
     z : StandsFor (exec (nextJob (a .next) (callAfter (atOf (storedAt (a .at) c₀)))) (stands m₁ ws b)) (ownOf (storedAt (a .at) c₀)) t m c ws b
-    z = subst (λ (l : List ℕ). BeginsNext (a .next) t₀ m₁ l t m c) at g .next (f .0, x .1) (y .1) ws b
+    z = subst (λ (l : List ℕ). BeginsNext (a .next) t₀ m₁ l t m c) at g .next (y .3 ∙ run) (f .0, x .1) (y .1) ws b
 
 pub asks-in : (a : Asks) (t₀ m₀ c₀ ws₀ b₀ m₁ c₁ t m c ws b : List ℕ) → c₁ ≡ storedAt (a .at) c₀ → Changes (a .change) m₀ ws₀ b₀ m₁ ws b
     → BeginsNext (a .next) t₀ m₁ c₁ t m c → AsksIn a t₀ m₀ c₀ ws₀ b₀ t m c ws b
@@ -156,13 +172,25 @@ step-moves a t₀ m₀ c₀ ws₀ b {r} {t} {m} {ws} e g = record {
     h : Fits t₀ m₀ → Goes (stepTree t₀ m₀ a ws₀) Moving t m ws
     h f = subst (λ (x : Went). Goes (stepTree t₀ m₀ a ws₀) x t m ws) e (g f)
 
-pub step-asks : (a : Answer) (t₀ m₀ c₀ ws₀ b₀ : List ℕ) {r : Went} {t₁ m₁ ws₁ : List ℕ} (o : Outcome) (x : Asks) {p : At} {t m c ws b : List ℕ} → r ≡ Finished o
-    → (Fits t₀ m₀ → Goes (stepTree t₀ m₀ a ws₀) r t₁ m₁ ws₁) → p ≡ atOf c₀ → callAfter p o ≡ asksJob x → AsksIn x t₁ m₁ c₀ ws₁ b₀ t m c ws b
-    → StepsIn a t₀ m₀ c₀ ws₀ b₀ t m c ws b
-step-asks a t₀ m₀ c₀ ws₀ b₀ {r} {t₁} {m₁} {ws₁} o x e g at is k = record {
-  steps = λ run f s.
-      stands-for (h f .tree b₀ _ ∙ then-is (callAfter (atOf c₀)) (stands m₁ ws₁ b₀) o ∙ ap (λ (j : Job). exec j (stands m₁ ws₁ b₀)) (ap (λ (p : At). callAfter p o) (sym at) ∙ is))
-      (k .asks (h f .fits) s);
+-- what follows an operation that has come to the outcome o
+pub record FinishesIn (o : Outcome) (t₀ m₀ c₀ ws₀ b₀ t m c ws b : List ℕ) : Type 0 where
+  pub follows : statusOf c₀ ≡ Running → Fits t₀ m₀ → CallSized c₀ → StandsFor (exec (callAfter (atOf c₀) o) (stands m₀ ws₀ b₀)) (ownOf c₀) t m c ws b
+
+pub finish-ends : (o : Outcome) (t m c₀ c ws b : List ℕ) → getD c₀ 0 0 ≡ 0 → EndsIn o c₀ c → FinishesIn o t m c₀ ws b t m c ws b
+finish-ends o t m c₀ c ws b z g = record {
+  follows = λ run f s. stands-for (ap (λ (j : Job). exec j (stands m ws b)) (whole-after (atOf c₀) o z) ∙ exec-ends o (stands m ws b)) (ends-for o t m c₀ c ws b g f s);
+}
+
+pub finish-asks : (o : Outcome) (t₀ m₀ c₀ ws₀ b₀ : List ℕ) (x : Asks) {p : At} {t m c ws b : List ℕ} → p ≡ atOf c₀ → callAfter p o ≡ asksJob x
+    → AsksIn x t₀ m₀ c₀ ws₀ b₀ t m c ws b → FinishesIn o t₀ m₀ c₀ ws₀ b₀ t m c ws b
+finish-asks o t₀ m₀ c₀ ws₀ b₀ x at is k = record {
+  follows = λ run f s. stands-for (ap (λ (j : Job). exec j (stands m₀ ws₀ b₀)) (ap (λ (p : At). callAfter p o) (sym at) ∙ is)) (k .asks run f s);
+}
+
+pub step-finishes : (a : Answer) (t₀ m₀ c₀ ws₀ b₀ : List ℕ) {r : Went} {t₁ m₁ ws₁ : List ℕ} (o : Outcome) {t m c ws b : List ℕ} → r ≡ Finished o
+    → (Fits t₀ m₀ → Goes (stepTree t₀ m₀ a ws₀) r t₁ m₁ ws₁) → FinishesIn o t₁ m₁ c₀ ws₁ b₀ t m c ws b → StepsIn a t₀ m₀ c₀ ws₀ b₀ t m c ws b
+step-finishes a t₀ m₀ c₀ ws₀ b₀ {r} {t₁} {m₁} {ws₁} o e g k = record {
+  steps = λ run f s. stands-for (h f .tree b₀ _ ∙ then-is (callAfter (atOf c₀)) (stands m₁ ws₁ b₀) o) (k .follows run (h f .fits) s);
 }
   where
     h : Fits t₀ m₀ → Goes (stepTree t₀ m₀ a ws₀) (Finished o) t₁ m₁ ws₁
@@ -183,27 +211,28 @@ pub record SteppedIn (a : Answer) (t₀ m₀ c₀ row₀ words₀ b₀ t m c row
       → LentIn (ownOf c₀) (follow (wordsTree t₀ m₀ c₀ (cond (ownOf c₀) words₀ row₀) b₀) a) t m c row₀ words₀ row words b
   pub stays : (o : Outcome) → statusOf c₀ ≡ Ended o → (t ≡ t₀) × (m ≡ m₀) × (c ≡ c₀)
 
--- whose words a call runs over
-own-set : (n : ℕ) (c : List ℕ) → CallSized c → (ownOf (set c 9 n) ≡ eqb n 1) × CallSized (set c 9 n)
-own-set n = by-words (λ c. (ownOf (set c 9 n) ≡ eqb n 1) × CallSized (set c 9 n)) (λ _ _ _ _ _ _ _ _ _ _. (refl, refl))
+-- how a call stands that is begun
+begun-set : (n : ℕ) (c : List ℕ) → n < 2 → CallSized c → (ownOf (set c 6 n) ≡ eqb (n % 2) 1) × CallSized (set c 6 n) × (statusOf (set c 6 n) ≡ Running)
+begun-set n c l = by-words (λ c. (ownOf (set c 6 n) ≡ eqb (n % 2) 1) × CallSized (set c 6 n) × (statusOf (set c 6 n) ≡ Running))
+    (λ _ _ _ _ _ _ _ _ _. (refl, refl, simp (lt-ltb n 2 l))) c
 
-pub starts-in : (n : ℕ) (own : Bool) (x : EngineCall) (y : Asks) (t₀ m₀ c₀ row₀ words₀ b₀ : List ℕ) {t m c row words b : List ℕ} → eqb n 1 ≡ own → E.lent x ≡ own
-    → jobOf x (length words₀) (length b₀) ≡ asksJob y
-    → AsksIn y t₀ m₀ (set c₀ 9 n) (cond own words₀ row₀) b₀ t m c (cond own words row) b → cond own row words ≡ cond own row₀ words₀
+pub starts-in : (n : ℕ) (own : Bool) (x : EngineCall) (y : Asks) (t₀ m₀ c₀ row₀ words₀ b₀ : List ℕ) {t m c row words b : List ℕ} → n < 2
+    → eqb (n % 2) 1 ≡ own → E.lent x ≡ own → jobOf x (length words₀) (length b₀) ≡ asksJob y
+    → AsksIn y t₀ m₀ (set c₀ 6 n) (cond own words₀ row₀) b₀ t m c (cond own words row) b → cond own row words ≡ cond own row₀ words₀
     → StartedIn x t₀ m₀ c₀ row₀ words₀ b₀ t m c row words b
-starts-in n own x y t₀ m₀ c₀ row₀ words₀ b₀ {t} {m} {c} {row} {words} {b} e l is k o = record {
-  lent = λ f s.
+starts-in n own x y t₀ m₀ c₀ row₀ words₀ b₀ {t} {m} {c} {row} {words} {b} few e l is k o = record {
+  lent = λ f s. let q = begun-set n c₀ few s in
       subst (λ (own : Bool). LentIn own (exec (jobOf x (length words₀) (length b₀)) (memoryOf (rememberedOf m₀) (cond own words₀ row₀) b₀)) t m c row₀ words₀ row words b) (sym l)
       (record {
         stand = subst (λ (p : Bool). StandsFor (exec (jobOf x (length words₀) (length b₀)) (stands m₀ (cond own words₀ row₀) b₀)) p t m c (cond own words row) b)
-            (own-set n c₀ s .0 ∙ e)
-            (stands-for (ap (λ (j : Job). exec j (stands m₀ (cond own words₀ row₀) b₀)) is) (k .asks f (own-set n c₀ s .1)));
+            (q .0 ∙ e)
+            (stands-for (ap (λ (j : Job). exec j (stands m₀ (cond own words₀ row₀) b₀)) is) (k .asks (q .2) f (q .1)));
         other = o;
       });
 }
 
 -- a step of a call under way, over the words that `own` names
-pub steps-in : (own : Bool) (a : Answer) (t₀ m₀ c₀ row₀ words₀ b₀ : List ℕ) {t m c row words b : List ℕ} → eqb (getD c₀ 6 0) 0 ≡ true → ownOf c₀ ≡ own
+pub steps-in : (own : Bool) (a : Answer) (t₀ m₀ c₀ row₀ words₀ b₀ : List ℕ) {t m c row words b : List ℕ} → running c₀ ≡ true → ownOf c₀ ≡ own
     → StepsIn a t₀ m₀ c₀ (cond own words₀ row₀) b₀ t m c (cond own words row) b → cond own row words ≡ cond own row₀ words₀
     → SteppedIn a t₀ m₀ c₀ row₀ words₀ b₀ t m c row words b
 steps-in own a t₀ m₀ c₀ row₀ words₀ b₀ {t} {m} {c} {row} {words} {b} z w k o = record {
@@ -223,7 +252,7 @@ steps-in own a t₀ m₀ c₀ row₀ words₀ b₀ {t} {m} {c} {row} {words} {b}
     runs-on e h = let q : _≡_ {A = ℕ} 0 1 = ap which h in absurd (omega arith)
 
 -- a step of one that has ended
-pub ends-again : (a : Answer) (t m c row words b : List ℕ) → eqb (getD c 6 0) 0 ≡ false → SteppedIn a t m c row words b t m c row words b
+pub ends-again : (a : Answer) (t m c row words b : List ℕ) → running c ≡ false → SteppedIn a t m c row words b t m c row words b
 ends-again a t m c row words b z = record {
   lent = λ f s. record {
     stand = record { tree = same; fits = f; sized = s; whose = refl; counted = subst (λ (d : Status). CountedIn d t) (sym ended) tt };
@@ -244,3 +273,29 @@ ends-again a t m c row words b z = record {
     same : follow (wordsTree t m c ws b) a ≡ wordsTree t m c ws b
     same = ap (λ (d : Status). follow (statusTree d (flightTree t m c ws b) (stands m ws b)) a) ended
         ∙ ap (λ (d : Status). statusTree d (flightTree t m c ws b) (stands m ws b)) (sym ended)
+
+-- whose words a call under way runs over, by the number that the code tests
+pub own-words : (c : List ℕ) → getD c 6 0 ≡ 1 → ownOf c ≡ true
+own-words c e = ap (λ (n : ℕ). eqb (n % 2) 1) e
+
+pub own-row : (c : List ℕ) → getD c 6 0 < 2 → (getD c 6 0 ≡ 1 → ⊥) → ownOf c ≡ false
+own-row c l h = ap (λ (n : ℕ). eqb (n % 2) 1) (none (getD c 6 0) l h)
+  where
+    none : (n : ℕ) → n < 2 → (n ≡ 1 → ⊥) → n ≡ 0
+    none n l h = omega arith
+
+-- What a step over the row that does nothing where it answers false leaves: the step with the value v, or all as it was.
+pub record TriesIn (v : ℕ) (r : Bool) (t₀ m₀ c row₀ t m row : List ℕ) : Type 0 where
+  pub moved : r ≡ true → (words b : List ℕ) → SteppedIn (Good v) t₀ m₀ c row₀ words b t m c row words b
+  pub stays : r ≡ false → (t ≡ t₀) × (m ≡ m₀) × (row ≡ row₀)
+
+pub tries-in : (v : ℕ) (t₀ m₀ c row₀ : List ℕ) {r : Bool} {t m row : List ℕ} → getD c 6 0 ≡ 0 → Tries (stepTree t₀ m₀ (Good v) row₀) r t₀ m₀ row₀ t m row
+    → TriesIn v r t₀ m₀ c row₀ t m row
+tries-in v t₀ m₀ c row₀ z g = record {
+  moved = λ e words b. steps-in false (Good v) t₀ m₀ c row₀ words b (ap (λ (n : ℕ). ltb n 2) z) (ap (λ (n : ℕ). eqb (n % 2) 1) z)
+      (step-moves (Good v) t₀ m₀ c row₀ b refl (g .moved e)) refl;
+  stays = g .stays;
+}
+
+pub tries-none : (v : ℕ) (t m c row : List ℕ) → TriesIn v false t m c row t m row
+tries-none v t m c row = record { moved = λ e. absurd (true≢false (sym e)); stays = λ _. (refl, refl, refl) }
