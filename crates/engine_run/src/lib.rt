@@ -11,6 +11,7 @@ ghost use Rattle.engine.specs.Laws.Step.{LentIn};
 ghost use Rattle.engine_run.specs.Run.{within, RanAs};
 ghost use Rattle.engine_run.specs.Laws.Runs.{Turns, Stops, endingIn};
 use engine_calls::EngineCall;
+use wire::Answer;
 use wire::Remembered;
 use wire_numbers::CallEnding;
 
@@ -45,9 +46,11 @@ fn turn(
     log: &mut [u64],
 )
     requires { ⌜ i < length (now answers) ⌝ }
-    ensures { λ _. ⌜ Turns i (now (answers .entry)) (now (t .entry)) (now (m .entry)) (now (c .entry)) (now (row .entry)) (now (words .entry)) (now (buf .entry)) (now (log .entry)) (now (t .exit)) (now (m .exit)) (now (c .exit)) (now (row .exit)) (now (words .exit)) (now (buf .exit)) (now (log .exit)) ⌝ }
+    ensures { λ _. ⌜ Turns i (now (answers .entry)) (now (t .entry)) (now (m .entry)) (now (c .entry)) (now (row .entry)) (now (words .entry))
+        (now (buf .entry)) (now (log .entry)) (now (t .exit)) (now (m .exit)) (now (c .exit)) (now (row .exit)) (now (words .exit))
+        (now (buf .exit)) (now (log .exit)) ⌝ }
 {
-    wire_numbers::note_words(log, i, t);
+    wire_numbers::note_due(log, i, t);
     let j = i as usize;
     let x = answers[j];
     if x < 0x100000000 {
@@ -58,6 +61,8 @@ fn turn(
         if engine::moves_in(t, m, c, v, row) {
             return;
         }
+        engine::step_in(t, m, c, Answer::Good(v), row, words, buf);
+        return;
     }
     engine::step_in(t, m, c, wire_numbers::answer_of(x), row, words, buf);
 }
@@ -75,7 +80,10 @@ fn run_on(
     log: &mut [u64],
 ) -> u32
     requires { ⌜ limit ≤ length (now answers) ⌝ }
-    ensures { λ n. ⌜ ((own : Bool) (w : Wire) (row₀ words₀ : List ℕ) → LentIn own w (now (t .entry)) (now (m .entry)) (now (c .entry)) row₀ words₀ (now (row .entry)) (now (words .entry)) (now (buf .entry)) → Stops own w limit (now (answers .entry)) row₀ words₀ (now (log .entry)) n (now (t .exit)) (now (m .exit)) (now (c .exit)) (now (row .exit)) (now (words .exit)) (now (buf .exit)) (now (log .exit))) ⌝ }
+    ensures { λ n. ⌜ ((own : Bool) (w : Wire) (row₀ words₀ : List ℕ)
+        → LentIn own w (now (t .entry)) (now (m .entry)) (now (c .entry)) row₀ words₀ (now (row .entry)) (now (words .entry)) (now (buf .entry))
+        → Stops own w limit (now (answers .entry)) row₀ words₀ (now (log .entry)) n (now (t .exit)) (now (m .exit)) (now (c .exit))
+        (now (row .exit)) (now (words .exit)) (now (buf .exit)) (now (log .exit))) ⌝ }
 {
     let mut i: u32 = 0;
     while i < limit {
@@ -114,7 +122,9 @@ pub fn run(
     buf: &mut [u8],
     log: &mut [u64],
 ) -> Ran
-    ensures { λ y. ⌜ RanAs x (play (callTree x r (rowFor x (now (frame .entry))) (now (words .entry)) (now (buf .entry))) (within budget (now (answers .entry)))) y (now (frame .entry)) (now (words .entry)) (now (frame .exit)) (now (words .exit)) (now (buf .exit)) (now (log .entry)) (now (log .exit)) ⌝ }
+    ensures { λ y. ⌜ RanAs x
+        (play (callTree x r (rowFor x (now (frame .entry))) (now (words .entry)) (now (buf .entry))) (within budget (now (answers .entry))))
+        y (now (frame .entry)) (now (words .entry)) (now (frame .exit)) (now (words .exit)) (now (buf .exit)) (now (log .entry)) (now (log .exit)) ⌝ }
 {
     let f = engine_calls::frame_for(x);
     let before = *frame;

@@ -22,17 +22,17 @@ use Rattle.engine_calls.specs.declared.Frame.{Frame}
 use Rattle.wire.specs.declared.Remembered.{Remembered}
 use Rattle.engine_calls.specs.declared.EngineCall.{EngineCall}
 use Rattle.engine_calls.specs.declared.EngineCall.the-variants as C
-use Rattle.engine.specs.Laws.State.{statusAs, flightTree, statusTree, wordsTree, Waits, DueIn, state-due}
+use Rattle.engine.specs.Laws.State.{running, statusAs, flightTree, statusTree, wordsTree, Waits, DueIn, state-due}
 use Rattle.engine.specs.Laws.Step.{StandsFor, LentIn, StartedIn, SteppedIn}
 use Rattle.engine_run.specs.Laws.Along.{Along, rest, along-none, along-step, rest-none}
 use Rattle.engine_run.specs.Run.{within, Reports, RanAs}
 use Rattle.engine_run.specs.declared.Ran.{Ran}
 
 -- the tree of words by their status
-runs-tree : (t m c ws b : List ℕ) → eqb (getD c 6 0) 0 ≡ true → wordsTree t m c ws b ≡ flightTree t m c ws b
+runs-tree : (t m c ws b : List ℕ) → running c ≡ true → wordsTree t m c ws b ≡ flightTree t m c ws b
 runs-tree t m c ws b z = ap (λ (x : Bool). statusTree (statusAs x (outcomeOf (getD c 7 0) (getD c 8 0))) (flightTree t m c ws b) (stands m ws b)) z
 
-ends-tree : (t m c ws b : List ℕ) → eqb (getD c 6 0) 0 ≡ false → wordsTree t m c ws b ≡ done (stands m ws b) (outcomeOf (getD c 7 0) (getD c 8 0))
+ends-tree : (t m c ws b : List ℕ) → running c ≡ false → wordsTree t m c ws b ≡ done (stands m ws b) (outcomeOf (getD c 7 0) (getD c 8 0))
 ends-tree t m c ws b z = ap (λ (x : Bool). statusTree (statusAs x (outcomeOf (getD c 7 0) (getD c 8 0))) (flightTree t m c ws b) (stands m ws b)) z
 
 flies-on : (d : Mode) (s : Memory) (t : Transfer) (k : Outcome → Wire) → Waits (flight d s t k)
@@ -46,14 +46,14 @@ none-flight D.trying s t k = refl
 none-flight D.aborting s t k = refl
 none-flight D.raw s t k = refl
 
-play-none : (t m c ws b : List ℕ) → eqb (getD c 6 0) 0 ≡ true → play (wordsTree t m c ws b) [] ≡ record { calls = []; memory = stands m ws b; ending = spent }
+play-none : (t m c ws b : List ℕ) → running c ≡ true → play (wordsTree t m c ws b) [] ≡ record { calls = []; memory = stands m ws b; ending = spent }
 play-none t m c ws b z = ap (λ (w : Wire). play w []) (runs-tree t m c ws b z) ∙ none-flight (transferOf t .mode) (stands m ws b) (transferOf t) _
 
 play-done : (s : Memory) (o : Outcome) (more : List Answer) → play (done s o) more ≡ record { calls = []; memory = s; ending = ended o }
 unfolding play
 play-done s o more = refl
 
-play-ended : (t m c ws b : List ℕ) (more : List Answer) → eqb (getD c 6 0) 0 ≡ false
+play-ended : (t m c ws b : List ℕ) (more : List Answer) → running c ≡ false
     → play (wordsTree t m c ws b) more ≡ record { calls = []; memory = stands m ws b; ending = ended (outcomeOf (getD c 7 0) (getD c 8 0)) }
 play-ended t m c ws b more z = ap (λ (w : Wire). play w more) (ends-tree t m c ws b z) ∙ play-done (stands m ws b) _ more
 
@@ -63,14 +63,22 @@ pub record Turns (i : ℕ) (xs t₀ m₀ c₀ row₀ words₀ b₀ l₀ t m c ro
   pub log : l ≡ set l₀ i (codeOf (transferOf t₀ .call))
   pub readable : callOf (codeOf (transferOf t₀ .call)) ≡ transferOf t₀ .call
 
-pub turns-by : (i : ℕ) (xs t₀ m₀ c₀ row₀ words₀ b₀ l₀ : List ℕ) {t m c row words b l : List ℕ} (a : Answer) (x : Call)
-    → x ≡ transferOf t₀ .call → (l ≡ set l₀ i (codeOf x)) × (callOf (codeOf x) ≡ x) → a ≡ answerOf (getD xs i 0)
+pub turns-by : (i : ℕ) (xs t₀ m₀ c₀ row₀ words₀ b₀ l₀ : List ℕ) {t m c row words b l : List ℕ} (a : Answer)
+    → (l ≡ set l₀ i (codeOf (transferOf t₀ .call))) × (callOf (codeOf (transferOf t₀ .call)) ≡ transferOf t₀ .call) → a ≡ answerOf (getD xs i 0)
     → SteppedIn a t₀ m₀ c₀ row₀ words₀ b₀ t m c row words b → Turns i xs t₀ m₀ c₀ row₀ words₀ b₀ l₀ t m c row words b l
-turns-by i xs t₀ m₀ c₀ row₀ words₀ b₀ l₀ {t} {m} {c} {row} {words} {b} {l} a x d n h g = record {
+turns-by i xs t₀ m₀ c₀ row₀ words₀ b₀ l₀ {t} {m} {c} {row} {words} {b} a n h g = record {
   step = subst (λ (y : Answer). SteppedIn y t₀ m₀ c₀ row₀ words₀ b₀ t m c row words b) h g;
-  log = n .0 ∙ ap (λ (y : Call). set l₀ i (codeOf y)) d;
-  readable = subst (λ (y : Call). callOf (codeOf y) ≡ y) d (n .1);
+  log = n .0;
+  readable = n .1;
 }
+
+-- a step from words that are as they were
+pub stepped-from : (a : Answer) (t₀ m₀ c₀ row₀ words₀ b₀ : List ℕ) {t₁ m₁ row₁ t m c row words b : List ℕ} → (t₁ ≡ t₀) × (m₁ ≡ m₀) × (row₁ ≡ row₀)
+    → SteppedIn a t₁ m₁ c₀ row₁ words₀ b₀ t m c row words b → SteppedIn a t₀ m₀ c₀ row₀ words₀ b₀ t m c row words b
+stepped-from a t₀ m₀ c₀ row₀ words₀ b₀ {t₁} {m₁} {row₁} {t} {m} {c} {row} {words} {b} e g =
+    subst (λ (l : List ℕ). SteppedIn a l m₀ c₀ row₀ words₀ b₀ t m c row words b) (e .0)
+    (subst (λ (l : List ℕ). SteppedIn a t₁ l c₀ row₀ words₀ b₀ t m c row words b) (e .1)
+    (subst (λ (l : List ℕ). SteppedIn a t₁ m₁ c₀ l words₀ b₀ t m c row words b) (e .2) g))
 
 -- After i transport calls of the run of the tree w: the words stand for what is left of it. `row₀` and `words₀` were there before
 -- the call.
@@ -87,11 +95,11 @@ runs-start own w limit xs row₀ words₀ l t m c row words b h =
     })
 
 -- a call under way has the transport call in flight due
-words-due : (t m c ws b : List ℕ) → eqb (getD c 6 0) 0 ≡ true → DueIn (wordsTree t m c ws b) (transferOf t .call)
+words-due : (t m c ws b : List ℕ) → running c ≡ true → DueIn (wordsTree t m c ws b) (transferOf t .call)
 words-due t m c ws b z = state-due (record { transfer = t; op = m; call = c }) ws b (subst Waits (sym (runs-tree t m c ws b z)) (flies-on (transferOf t .mode) (stands m ws b) (transferOf t) _))
 
 pub runs-turn : (own : Bool) (w : Wire) (limit : ℕ) (xs row₀ words₀ l₀ : List ℕ) (i : ℕ) (t m c row words b l : List ℕ)
-    {t₂ m₂ c₂ row₂ words₂ b₂ l₂ : List ℕ} → eqb (getD c 6 0) 0 ≡ true → i < limit → limit ≤ length xs
+    {t₂ m₂ c₂ row₂ words₂ b₂ l₂ : List ℕ} → running c ≡ true → i < limit → limit ≤ length xs
     → Turns i xs t m c row words b l t₂ m₂ c₂ row₂ words₂ b₂ l₂
     → Runs own w limit xs row₀ words₀ l₀ i t m c row words b l → Runs own w limit xs row₀ words₀ l₀ (i + 1) t₂ m₂ c₂ row₂ words₂ b₂ l₂
 runs-turn own w limit xs row₀ words₀ l₀ i t m c row words b l {t₂} {m₂} {c₂} {row₂} {words₂} {b₂} {l₂} e h g k r = record {
@@ -118,7 +126,7 @@ endingAs true c = spent
 endingAs false c = ended (outcomeOf (getD c 7 0) (getD c 8 0))
 
 abbrev pub endingIn : List ℕ → Ending
-endingIn c = endingAs (eqb (getD c 6 0) 0) c
+endingIn c = endingAs (running c) c
 
 -- the report of a run of which nothing is left
 reports-none : (i : ℕ) (l₀ l : List ℕ) (p : Played) (x : Ending) (r : Ran) (ws b : List ℕ)
@@ -137,10 +145,10 @@ reports-none i l₀ l p x r ws b al n e =
 -- a run that stops after n calls: its call has ended, or no answer is left
 pub record Stops (own : Bool) (w : Wire) (limit : ℕ) (xs row₀ words₀ l₀ : List ℕ) (n : ℕ) (t m c row words b l : List ℕ) : Type 0 where
   pub runs : Runs own w limit xs row₀ words₀ l₀ n t m c row words b l
-  pub over : eqb (getD c 6 0) 0 ≡ true → limit ≤ n
+  pub over : running c ≡ true → limit ≤ n
 
-stop-at : (running : Bool) (own : Bool) (w : Wire) (limit : ℕ) (xs row₀ words₀ l₀ : List ℕ) (n : ℕ) (t m c row words b l : List ℕ) (r : Ran)
-    → eqb (getD c 6 0) 0 ≡ running → r .count ≡ n → r .ending ≡ endingOf (endingAs running c) → r .remembered ≡ rememberedOf m
+stop-at : (going : Bool) (own : Bool) (w : Wire) (limit : ℕ) (xs row₀ words₀ l₀ : List ℕ) (n : ℕ) (t m c row words b l : List ℕ) (r : Ran)
+    → running c ≡ going → r .count ≡ n → r .ending ≡ endingOf (endingAs going c) → r .remembered ≡ rememberedOf m
     → Stops own w limit xs row₀ words₀ l₀ n t m c row words b l → Reports (play w (rest limit xs 0)) r (cond own words row) b l₀ l
 stop-at true own w limit xs row₀ words₀ l₀ n t m c row words b l r e h k g s =
     reports-none n l₀ l _ spent r (cond own words row) b
@@ -199,7 +207,7 @@ run-ran c r budget limit xs frame₀ row₀ words₀ b₀ l₀ f n t₁ m₁ c�
     ran-as c (lent c) (play (callTree c r (rowFor c frame₀) words₀ b₀) (within budget xs)) x row words b l₀ l row₀ words₀ frame₀ frame refl
     (subst (λ (as′ : List ℕ). Reports (play (callTree c r (rowFor c frame₀) words₀ b₀) (map answerOf as′)) x (cond (lent c) words row) b l₀ l) ht
     (subst (λ (ws : List ℕ). Reports (play (callTree c r ws words₀ b₀) (rest limit xs 0)) x (cond (lent c) words row) b l₀ l)
-    (hr ∙ ap (λ (y : Frame). rowWith y frame₀) hf) (stop-at (eqb (getD c₁ 6 0) 0) (lent c) (callTree c r row₀ words₀ b₀) limit xs row₀ words₀ l₀ n t₁ m₁ c₁ row words b l x refl hn he hm g)))
+    (hr ∙ ap (λ (y : Frame). rowWith y frame₀) hf) (stop-at (running c₁) (lent c) (callTree c r row₀ words₀ b₀) limit xs row₀ words₀ l₀ n t₁ m₁ c₁ row words b l x refl hn he hm g)))
     (g .runs .at .other) (h ∙ ap (λ (y : Frame). leave y (eqb (x .ending .number) 0) row frame₀) hf)
 
 -- a call that is under way is not over
@@ -213,7 +221,7 @@ never-running false y h e g = absurd (true≢false (sym g ∙ sym h))
 
 -- a start in words that remember r
 pub started-in : (x : EngineCall) (r : Remembered) (m₀ row₀ words₀ b₀ : List ℕ) {t m c row words b : List ℕ} → Remembers r m₀
-    → StartedIn x (replicate 7 0) m₀ (replicate 10 0) row₀ words₀ b₀ t m c row words b
+    → StartedIn x (replicate 7 0) m₀ (replicate 9 0) row₀ words₀ b₀ t m c row words b
     → LentIn (lent x) (callTree x r row₀ words₀ b₀) t m c row₀ words₀ row words b
 started-in x r m₀ row₀ words₀ b₀ {t} {m} {c} {row} {words} {b} h g =
     subst (λ (y : Remembered). LentIn (lent x) (callTree x y row₀ words₀ b₀) t m c row₀ words₀ row words b) (h .is) (g .lent (refl, h .sized) refl)

@@ -10,9 +10,10 @@ use lib.ListN.{set, getD}
 use Rattle.wire.specs.Bytes.{patternAt}
 use Rattle.wire.specs.declared.Pattern.{Pattern}
 use Rattle.wire.specs.Laws.Flight.{transferOf}
+use Rattle.wire.specs.declared.Answer.the-variants as A
 use Rattle.wire.specs.declared.Call.{Call}
 use Rattle.wire.specs.declared.Call.the-variants as C
-use Rattle.wire_numbers.specs.Log.{codeOf, callOf}
+use Rattle.wire_numbers.specs.Log.{answerOf, codeOf, callOf}
 
 module _ (a b w x : ℕ) (ha : a < 256) (hb : b < 256) (hw : w < 0x100000000) where
   pub reads-transfer : x ≡ b * 0x100000000 + w → callOf x ≡ C.Transfer b w
@@ -52,3 +53,10 @@ noted i l {l₂} d e h = subst (λ (c : Call). (l₂ ≡ set l i (codeOf c)) × 
 pub noted-transfer : (t : List ℕ) {request word : ℕ} → eqb (getD t 2 0) 0 ≡ true → request ≡ getD t 3 0 % 256 → word ≡ getD t 4 0
     → C.Transfer request word ≡ transferOf t .call
 noted-transfer t z r w = simp (eqb-true (getD t 2 0) 0 z) (simp (r, w))
+
+-- a number below 2^32 is the answer Ok with that word
+pub good-answer : (x : ℕ) → x < 0x100000000 → A.Good x ≡ answerOf x
+good-answer x h =
+    let k : x / 0x100000000 ≡ 0 = omega arith in
+    let v : x % 0x100000000 ≡ x = omega arith in
+    simp (k, v)
