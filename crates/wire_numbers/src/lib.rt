@@ -325,31 +325,28 @@ fn code_of(c: Call) -> u64
     }
 }
 
-// A transport call, noted at place i of the log; a place outside is dropped.
-pub fn note(log: &mut [u64], i: u32, c: Call)
-    ensures { λ _. ⌜ (now (log .exit) ≡ set (now (log .entry)) i (codeOf c)) × (callOf (codeOf c) ≡ c) ⌝ }
+// A number at place i of the log; a place outside is dropped.
+fn put(log: &mut [u64], i: u32, x: u64)
+    ensures { λ _. ⌜ now (log .exit) ≡ set (now (log .entry)) i x ⌝ }
 {
-    let x = code_of(c);
     let j = i as usize;
     if j < log.len() {
         log[j] = x;
     }
 }
 
-// The call in flight, noted: most are transfers, whose number is made at once.
+// The transport call in flight, noted at place i of the log. Most are transfers, whose number is made at once.
 pub fn note_due(log: &mut [u64], i: u32, t: &[u32; 7])
     ensures { λ _. ⌜ (now (log .exit) ≡ set (now (log .entry)) i (codeOf (transferOf (now (t .entry)) .call)))
         × (callOf (codeOf (transferOf (now (t .entry)) .call)) ≡ transferOf (now (t .entry)) .call) ⌝ }
 {
     if wire::is_transfer(t) {
-        let c = Call::Transfer {
-            request: wire::request(t),
-            word: wire::word(t),
-        };
-        note(log, i, c);
+        let request = wire::request(t);
+        let word = wire::word(t);
+        put(log, i, (request as u64) * 0x100000000 + (word as u64));
         return;
     }
-    note(log, i, wire::due(t));
+    put(log, i, code_of(wire::due(t)));
 }
 
 // The transport call that a number of the log stands for.

@@ -2,7 +2,7 @@
 use Prim.Native.Nat.{ℕ, _+_, _*_, _/_, _%_, _<_, _≤_}
 use mathlib.Core.Bool.{true}
 use mathlib.Core.List.{List}
-use mathlib.Core.Path.{_≡_, subst}
+use mathlib.Core.Path.{_≡_, sym, ap, subst, _∙_}
 use native.Mathlib.Omega.{arith}
 use borrow.Author.Tests.{eqb-true}
 use lib.Dec.{eqb}
@@ -44,15 +44,16 @@ reads-sequence n p h e =
     let v : (0x2000000000000 + n) % 0x100000000 ≡ n = omega arith in
     simp (k, v, e)
 
--- a call that is noted, under another name
-pub noted : (i : ℕ) (l : List ℕ) {l₂ : List ℕ} {c : Call} (d : Call) → d ≡ c → (l₂ ≡ set l i (codeOf d)) × (callOf (codeOf d) ≡ d)
+-- the call in flight is noted by its number
+pub noted : (i : ℕ) (l : List ℕ) {l₂ : List ℕ} {c : Call} (d : Call) (x : ℕ) → d ≡ c → (x ≡ codeOf d) × (callOf x ≡ d) → l₂ ≡ set l i x
     → (l₂ ≡ set l i (codeOf c)) × (callOf (codeOf c) ≡ c)
-noted i l {l₂} d e h = subst (λ (c : Call). (l₂ ≡ set l i (codeOf c)) × (callOf (codeOf c) ≡ c)) e h
+noted i l {l₂} d x e n h = subst (λ (c : Call). (l₂ ≡ set l i (codeOf c)) × (callOf (codeOf c) ≡ c)) e
+    (h ∙ ap (set l i) (n .0), ap callOf (sym (n .0)) ∙ n .1)
 
--- the transfer in flight
-pub noted-transfer : (t : List ℕ) {request word : ℕ} → eqb (getD t 2 0) 0 ≡ true → request ≡ getD t 3 0 % 256 → word ≡ getD t 4 0
+-- a transfer's number, as its words have it
+pub transfer-number : (t : List ℕ) {request word : ℕ} → eqb (getD t 2 0) 0 ≡ true → request ≡ getD t 3 0 % 256 → word ≡ getD t 4 0
     → C.Transfer request word ≡ transferOf t .call
-noted-transfer t z r w = simp (eqb-true (getD t 2 0) 0 z) (simp (r, w))
+transfer-number t z r w = simp (eqb-true (getD t 2 0) 0 z) (simp (r, w))
 
 -- a number below 2^32 is the answer Ok with that word
 pub good-answer : (x : ℕ) → x < 0x100000000 → A.Good x ≡ answerOf x
