@@ -1,12 +1,10 @@
-// The engine's calls for a benchmark in another language: each runs one call on a new engine over answers that are given
-// as numbers, and says how many transport calls it made.
+// The engine for a benchmark in another language, in numbers and slices: six calls on a new engine, each run over answers that are
+// given, or started and stepped, the caller making the transport calls.
 ghost use mathlib.Core.Path.{_≡_};
-ghost use Rattle.call_connect.specs.declared.ConnectCall.the-variants.{ConnectSwd};
-ghost use Rattle.call_core.specs.declared.CoreCall.the-variants.{CallFunction};
-ghost use Rattle.call_fpb.specs.declared.FpbCall.the-variants.{HwBreakpointSet};
-ghost use Rattle.call_memory.specs.declared.MemoryCall.the-variants.{ReadMem, WriteMem, ReadWord};
-ghost use Rattle.engine_calls.specs.declared.EngineCall.the-variants.{Connect, Memory, Core, Fpb};
-ghost use Rattle.bench.specs.Played.{Counted, called};
+ghost use Rattle.wire_numbers.specs.Log.{answerAt};
+ghost use Rattle.engine.specs.Laws.Step.{TriesIn};
+ghost use Rattle.bench.specs.Played.{callNo, Counted};
+ghost use Rattle.bench.specs.Laws.Steps.{BegunIn, SteppedBy};
 use call_connect::ConnectCall;
 use call_core::CoreCall;
 use call_core::Function;
@@ -14,14 +12,49 @@ use call_fpb::FpbCall;
 use call_memory::MemoryCall;
 use engine_calls::EngineCall;
 
-fn count(c: EngineCall, budget: u32, answers: &[u64], buf: &mut [u8], log: &mut [u64]) -> u32
-    ensures { λ r. ⌜ Counted c budget (now (answers .entry)) (now (buf .entry)) (now (log .entry)) r (now (buf .exit)) (now (log .exit)) ⌝ }
+// The calls by number. The function of the last one has no arguments; its stack and the place that it returns to are its own address.
+fn call_no(call: u32, addr: u32) -> EngineCall
+    ensures { λ r. ⌜ r ≡ callNo call addr ⌝ }
+{
+    match call {
+        0 => EngineCall::Memory(MemoryCall::ReadMem(addr)),
+        1 => EngineCall::Memory(MemoryCall::WriteMem(addr)),
+        2 => EngineCall::Memory(MemoryCall::ReadWord(addr)),
+        3 => EngineCall::Connect(ConnectCall::ConnectSwd),
+        4 => EngineCall::Fpb(FpbCall::HwBreakpointSet(addr)),
+        _ => {
+            let f = Function {
+                fn_addr: addr,
+                a0: 0,
+                a1: 0,
+                a2: 0,
+                a3: 0,
+                sp: addr,
+                trampoline: addr,
+            };
+            EngineCall::Core(CoreCall::CallFunction(f, 9))
+        }
+    }
+}
+
+// A whole call over answers; how many transport calls it made, which the log has.
+#[no_mangle]
+pub extern "C" fn bench_run(
+    call: u32,
+    addr: u32,
+    budget: u32,
+    answers: &[u64],
+    buf: &mut [u8],
+    log: &mut [u64],
+) -> u32
+    ensures { λ r. ⌜ Counted (callNo call addr) budget (now (answers .entry)) (now (buf .entry)) (now (log .entry)) r
+        (now (buf .exit)) (now (log .exit)) ⌝ }
 {
     let mut frame = [0u32; 8];
     let mut words = [0u32; 1];
     let r = engine_run::run(
         call::new(),
-        c,
+        call_no(call, addr),
         budget,
         answers,
         &mut frame,
@@ -32,127 +65,73 @@ fn count(c: EngineCall, budget: u32, answers: &[u64], buf: &mut [u8], log: &mut 
     r.count
 }
 
+// The start of a call in words that are lent: whether a transport call is due, which `t` has; else the call has ended, as `c` says.
 #[no_mangle]
-pub extern "C" fn bench_read_mem(
+pub extern "C" fn bench_start(
+    t: &mut [u32; 7],
+    m: &mut [u32; 12],
+    c: &mut [u32; 9],
+    call: u32,
     addr: u32,
-    budget: u32,
-    answers: &[u64],
+    row: &mut [u32; 64],
+    words: &mut [u32],
     buf: &mut [u8],
-    log: &mut [u64],
-) -> u32
-    ensures { λ r. ⌜ Counted (Memory (ReadMem addr)) budget (now (answers .entry)) (now (buf .entry)) (now (log .entry)) r (now (buf .exit)) (now (log .exit)) ⌝ }
+) -> bool
+    ensures { λ r. ⌜ BegunIn (callNo call addr) r (now (t .entry)) (now (m .entry)) (now (c .entry)) (now (row .entry)) (now (words .entry))
+        (now (buf .entry)) (now (t .exit)) (now (m .exit)) (now (c .exit)) (now (row .exit)) (now (words .exit)) (now (buf .exit)) ⌝ }
 {
-    count(
-        EngineCall::Memory(MemoryCall::ReadMem(addr)),
-        budget,
-        answers,
-        buf,
-        log,
-    )
+    wire_memap::remember(m, call::new());
+    engine::start_in(t, m, c, call_no(call, addr), row, words, buf);
+    engine::is_running(c)
 }
 
-#[no_mangle]
-pub extern "C" fn bench_write_mem(
-    addr: u32,
-    budget: u32,
-    answers: &[u64],
-    buf: &mut [u8],
-    log: &mut [u64],
-) -> u32
-    ensures { λ r. ⌜ Counted (Memory (WriteMem addr)) budget (now (answers .entry)) (now (buf .entry)) (now (log .entry)) r (now (buf .exit)) (now (log .exit)) ⌝ }
+// A value is taken at once where an access follows it.
+fn tried(
+    t: &mut [u32; 7],
+    m: &mut [u32; 12],
+    c: &[u32; 9],
+    code: u32,
+    value: u32,
+    row: &mut [u32; 64],
+) -> bool
+    ensures { λ r. ⌜ TriesIn (answerAt code value) r (now (t .entry)) (now (m .entry)) (now (c .entry)) (now (row .entry))
+        (now (t .exit)) (now (m .exit)) (now (row .exit)) ⌝ }
 {
-    count(
-        EngineCall::Memory(MemoryCall::WriteMem(addr)),
-        budget,
-        answers,
-        buf,
-        log,
-    )
+    if code == 0 {
+        if engine::runs_in(t, m, c, value, row) {
+            return true;
+        }
+        return engine::moves_in(t, m, c, value, row);
+    }
+    false
 }
 
+// One step with an answer, by 01's code and its value: whether a transport call is due.
 #[no_mangle]
-pub extern "C" fn bench_read_word(
-    addr: u32,
-    budget: u32,
-    answers: &[u64],
+pub extern "C" fn bench_step(
+    t: &mut [u32; 7],
+    m: &mut [u32; 12],
+    c: &mut [u32; 9],
+    code: u32,
+    value: u32,
+    row: &mut [u32; 64],
+    words: &mut [u32],
     buf: &mut [u8],
-    log: &mut [u64],
-) -> u32
-    ensures { λ r. ⌜ Counted (Memory (ReadWord addr)) budget (now (answers .entry)) (now (buf .entry)) (now (log .entry)) r (now (buf .exit)) (now (log .exit)) ⌝ }
+) -> bool
+    ensures { λ r. ⌜ SteppedBy code value r (now (t .entry)) (now (m .entry)) (now (c .entry)) (now (row .entry)) (now (words .entry))
+        (now (buf .entry)) (now (t .exit)) (now (m .exit)) (now (c .exit)) (now (row .exit)) (now (words .exit)) (now (buf .exit)) ⌝ }
 {
-    count(
-        EngineCall::Memory(MemoryCall::ReadWord(addr)),
-        budget,
-        answers,
+    if tried(t, m, c, code, value, row) {
+        return true;
+    }
+    engine::step_in(
+        t,
+        m,
+        c,
+        wire_numbers::answer_at(code, value),
+        row,
+        words,
         buf,
-        log,
-    )
-}
-
-#[no_mangle]
-pub extern "C" fn bench_connect_swd(
-    budget: u32,
-    answers: &[u64],
-    buf: &mut [u8],
-    log: &mut [u64],
-) -> u32
-    ensures { λ r. ⌜ Counted (Connect ConnectSwd) budget (now (answers .entry)) (now (buf .entry)) (now (log .entry)) r (now (buf .exit)) (now (log .exit)) ⌝ }
-{
-    count(
-        EngineCall::Connect(ConnectCall::ConnectSwd),
-        budget,
-        answers,
-        buf,
-        log,
-    )
-}
-
-#[no_mangle]
-pub extern "C" fn bench_hw_breakpoint_set(
-    addr: u32,
-    budget: u32,
-    answers: &[u64],
-    buf: &mut [u8],
-    log: &mut [u64],
-) -> u32
-    ensures { λ r. ⌜ Counted (Fpb (HwBreakpointSet addr)) budget (now (answers .entry)) (now (buf .entry)) (now (log .entry)) r (now (buf .exit)) (now (log .exit)) ⌝ }
-{
-    count(
-        EngineCall::Fpb(FpbCall::HwBreakpointSet(addr)),
-        budget,
-        answers,
-        buf,
-        log,
-    )
-}
-
-// The function at `fn_addr` with no arguments; `room` is its stack and the place that it returns to.
-#[no_mangle]
-pub extern "C" fn bench_call_function(
-    fn_addr: u32,
-    room: u32,
-    polls: u32,
-    budget: u32,
-    answers: &[u64],
-    buf: &mut [u8],
-    log: &mut [u64],
-) -> u32
-    ensures { λ r. ⌜ Counted (Core (CallFunction (called «fn_addr» room) polls)) budget (now (answers .entry)) (now (buf .entry)) (now (log .entry)) r (now (buf .exit)) (now (log .exit)) ⌝ }
-{
-    let f = Function {
-        fn_addr: fn_addr,
-        a0: 0,
-        a1: 0,
-        a2: 0,
-        a3: 0,
-        sp: room,
-        trampoline: room,
-    };
-    count(
-        EngineCall::Core(CoreCall::CallFunction(f, polls)),
-        budget,
-        answers,
-        buf,
-        log,
-    )
+    );
+    engine::is_running(c)
 }

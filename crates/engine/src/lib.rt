@@ -6,6 +6,7 @@ ghost use mathlib.Core.Path.{_≡_};
 ghost use Prim.Native.Nat.{ℕ};
 ghost use lib.ListN.{getD};
 ghost use Rattle.wire.specs.Laws.Flight.{outcomeOf, transferOf};
+ghost use Rattle.wire.specs.declared.Answer.the-variants.{Good};
 ghost use Rattle.wire_numbers.specs.Results.{resultOf};
 ghost use Rattle.wire_memap.specs.Laws.Doing.{rememberedOf};
 ghost use Rattle.call.specs.Change.{fresh};
@@ -237,7 +238,7 @@ pub fn step_in(
 // The step of a call over the row with the value v for an answer, where that is a word of a run and another follows: true, and it is
 // taken at once, as nearly all transfers of a memory call are such words; or false, and nothing is done.
 pub fn runs_in(t: &mut [u32; 7], m: &mut [u32; 12], c: &[u32; 9], v: u32, row: &mut [u32; 64]) -> bool
-    ensures { λ r. ⌜ TriesIn v r (now (t .entry)) (now (m .entry)) (now (c .entry)) (now (row .entry)) (now (t .exit)) (now (m .exit)) (now (row .exit)) ⌝ }
+    ensures { λ r. ⌜ TriesIn (Good v) r (now (t .entry)) (now (m .entry)) (now (c .entry)) (now (row .entry)) (now (t .exit)) (now (m .exit)) (now (row .exit)) ⌝ }
 {
     if c[STATUS] == 0 {
         return wire_memap::op_runs(t, m, v, row);
@@ -247,7 +248,7 @@ pub fn runs_in(t: &mut [u32; 7], m: &mut [u32; 12], c: &[u32; 9], v: u32, row: &
 
 // The same with the value of any access that another follows.
 pub fn moves_in(t: &mut [u32; 7], m: &mut [u32; 12], c: &[u32; 9], v: u32, row: &mut [u32; 64]) -> bool
-    ensures { λ r. ⌜ TriesIn v r (now (t .entry)) (now (m .entry)) (now (c .entry)) (now (row .entry)) (now (t .exit)) (now (m .exit)) (now (row .exit)) ⌝ }
+    ensures { λ r. ⌜ TriesIn (Good v) r (now (t .entry)) (now (m .entry)) (now (c .entry)) (now (row .entry)) (now (t .exit)) (now (m .exit)) (now (row .exit)) ⌝ }
 {
     if c[STATUS] == 0 {
         return wire_memap::op_moves(t, m, v, row);

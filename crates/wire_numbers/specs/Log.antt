@@ -8,13 +8,15 @@ use Rattle.wire.specs.declared.Answer.the-variants as A
 use Rattle.wire.specs.declared.Call.{Call}
 use Rattle.wire.specs.declared.Call.the-variants as C
 
--- an answer: 01's code (0 Ok, 1 SwdError, 2 NotSupported, 3 or more other) times 2^32, and the value; an ack is a byte: of SwdError's
--- value the lowest 8 bits count
+-- an answer by 01's code (0 Ok, 1 SwdError, 2 NotSupported, 3 or more other) and its value; an ack is a byte: of SwdError's value the
+-- lowest 8 bits count
+abbrev pub answerAt : ℕ → ℕ → Answer
+answerAt code value =
+    cond (eqb code 0) (A.Good value) (cond (eqb code 1) (A.SwdError (value % 256)) (cond (eqb code 2) A.NotSupported A.Other))
+
+-- the same as one number: the code times 2^32, and the value
 abbrev pub answerOf : ℕ → Answer
-answerOf x =
-    cond (eqb (x / 0x100000000) 0) (A.Good (x % 0x100000000))
-    (cond (eqb (x / 0x100000000) 1) (A.SwdError (x % 256))
-    (cond (eqb (x / 0x100000000) 2) A.NotSupported A.Other))
+answerOf x = answerAt (x / 0x100000000) (x % 0x100000000)
 
 -- a transport call: its kind times 2^48, two bytes and a word
 abbrev pub codeOf : Call → ℕ

@@ -6,7 +6,7 @@ ghost use Rattle.wire.specs.Bytes.{handed, padded, leBytes};
 ghost use Rattle.wire.specs.Laws.Flight.{transferOf};
 ghost use Rattle.wire_numbers.specs.Results.{errorNumber, errorValue, resultOf};
 ghost use Rattle.wire_numbers.specs.Numbers.{numbersOf};
-ghost use Rattle.wire_numbers.specs.Log.{answerOf, codeOf, callOf};
+ghost use Rattle.wire_numbers.specs.Log.{answerAt, answerOf, codeOf, callOf};
 use wire::Answer;
 use wire::ArmError;
 use wire::Call;
@@ -284,21 +284,27 @@ pub fn bytes_of(c: Call) -> [u8; 16]
     }
 }
 
-// The answer that a number stands for. An ack is a byte: of SwdError's value the lowest 8 bits count.
-pub fn answer_of(x: u64) -> Answer
-    ensures { λ r. ⌜ r ≡ answerOf x ⌝ }
+// An answer by 01's code and its value.
+pub fn answer_at(code: u32, value: u32) -> Answer
+    ensures { λ r. ⌜ r ≡ answerAt code value ⌝ }
 {
-    let code = x / 0x100000000;
     if code == 0 {
-        return Answer::Good((x % 0x100000000) as u32);
+        return Answer::Good(value);
     }
     if code == 1 {
-        return Answer::SwdError((x % 256) as u8);
+        return Answer::SwdError((value % 256) as u8);
     }
     if code == 2 {
         return Answer::NotSupported;
     }
     Answer::Other
+}
+
+// The answer that a number stands for: the code by 2^32, and the value.
+pub fn answer_of(x: u64) -> Answer
+    ensures { λ r. ⌜ r ≡ answerOf x ⌝ }
+{
+    answer_at((x / 0x100000000) as u32, (x % 0x100000000) as u32)
 }
 
 // The number of a transport call in the log.

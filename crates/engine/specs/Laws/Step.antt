@@ -284,18 +284,33 @@ own-row c l h = ap (λ (n : ℕ). eqb (n % 2) 1) (none (getD c 6 0) l h)
     none : (n : ℕ) → n < 2 → (n ≡ 1 → ⊥) → n ≡ 0
     none n l h = omega arith
 
--- What a step over the row that does nothing where it answers false leaves: the step with the value v, or all as it was.
-pub record TriesIn (v : ℕ) (r : Bool) (t₀ m₀ c row₀ t m row : List ℕ) : Type 0 where
-  pub moved : r ≡ true → (words b : List ℕ) → SteppedIn (Good v) t₀ m₀ c row₀ words b t m c row words b
+-- What a step over the row that does nothing where it answers false leaves: the step with the answer a, of a call under way, or all as
+-- it was.
+pub record TriesIn (a : Answer) (r : Bool) (t₀ m₀ c row₀ t m row : List ℕ) : Type 0 where
+  pub moved : r ≡ true → (words b : List ℕ) → SteppedIn a t₀ m₀ c row₀ words b t m c row words b
+  pub goes : r ≡ true → running c ≡ true
   pub stays : r ≡ false → (t ≡ t₀) × (m ≡ m₀) × (row ≡ row₀)
 
 pub tries-in : (v : ℕ) (t₀ m₀ c row₀ : List ℕ) {r : Bool} {t m row : List ℕ} → getD c 6 0 ≡ 0 → Tries (stepTree t₀ m₀ (Good v) row₀) r t₀ m₀ row₀ t m row
-    → TriesIn v r t₀ m₀ c row₀ t m row
+    → TriesIn (Good v) r t₀ m₀ c row₀ t m row
 tries-in v t₀ m₀ c row₀ z g = record {
   moved = λ e words b. steps-in false (Good v) t₀ m₀ c row₀ words b (ap (λ (n : ℕ). ltb n 2) z) (ap (λ (n : ℕ). eqb (n % 2) 1) z)
       (step-moves (Good v) t₀ m₀ c row₀ b refl (g .moved e)) refl;
+  goes = λ e. ap (λ (n : ℕ). ltb n 2) z;
   stays = g .stays;
 }
 
-pub tries-none : (v : ℕ) (t m c row : List ℕ) → TriesIn v false t m c row t m row
-tries-none v t m c row = record { moved = λ e. absurd (true≢false (sym e)); stays = λ _. (refl, refl, refl) }
+pub tries-none : (a : Answer) (t m c row : List ℕ) → TriesIn a false t m c row t m row
+tries-none a t m c row = record {
+  moved = λ e. absurd (true≢false (sym e));
+  goes = λ e. absurd (true≢false (sym e));
+  stays = λ _. (refl, refl, refl);
+}
+
+-- a step from words that are as they were
+pub stepped-from : (a : Answer) (t₀ m₀ c₀ row₀ words₀ b₀ : List ℕ) {t₁ m₁ row₁ t m c row words b : List ℕ} → (t₁ ≡ t₀) × (m₁ ≡ m₀) × (row₁ ≡ row₀)
+    → SteppedIn a t₁ m₁ c₀ row₁ words₀ b₀ t m c row words b → SteppedIn a t₀ m₀ c₀ row₀ words₀ b₀ t m c row words b
+stepped-from a t₀ m₀ c₀ row₀ words₀ b₀ {t₁} {m₁} {row₁} {t} {m} {c} {row} {words} {b} e g =
+    subst (λ (l : List ℕ). SteppedIn a l m₀ c₀ row₀ words₀ b₀ t m c row words b) (e .0)
+    (subst (λ (l : List ℕ). SteppedIn a t₁ l c₀ row₀ words₀ b₀ t m c row words b) (e .1)
+    (subst (λ (l : List ℕ). SteppedIn a t₁ m₁ c₀ l words₀ b₀ t m c row words b) (e .2) g))

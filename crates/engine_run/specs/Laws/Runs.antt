@@ -72,14 +72,6 @@ turns-by i xs t₀ m₀ c₀ row₀ words₀ b₀ l₀ {t} {m} {c} {row} {words}
   readable = n .1;
 }
 
--- a step from words that are as they were
-pub stepped-from : (a : Answer) (t₀ m₀ c₀ row₀ words₀ b₀ : List ℕ) {t₁ m₁ row₁ t m c row words b : List ℕ} → (t₁ ≡ t₀) × (m₁ ≡ m₀) × (row₁ ≡ row₀)
-    → SteppedIn a t₁ m₁ c₀ row₁ words₀ b₀ t m c row words b → SteppedIn a t₀ m₀ c₀ row₀ words₀ b₀ t m c row words b
-stepped-from a t₀ m₀ c₀ row₀ words₀ b₀ {t₁} {m₁} {row₁} {t} {m} {c} {row} {words} {b} e g =
-    subst (λ (l : List ℕ). SteppedIn a l m₀ c₀ row₀ words₀ b₀ t m c row words b) (e .0)
-    (subst (λ (l : List ℕ). SteppedIn a t₁ l c₀ row₀ words₀ b₀ t m c row words b) (e .1)
-    (subst (λ (l : List ℕ). SteppedIn a t₁ m₁ c₀ l words₀ b₀ t m c row words b) (e .2) g))
-
 -- After i transport calls of the run of the tree w: the words stand for what is left of it. `row₀` and `words₀` were there before
 -- the call.
 pub record Runs (own : Bool) (w : Wire) (limit : ℕ) (xs row₀ words₀ l₀ : List ℕ) (i : ℕ) (t m c row words b l : List ℕ) : Type 0 where

@@ -1,0 +1,48 @@
+-- A start and a step in words that are lent, with what they answer: whether a transport call is due. Serves the proofs only.
+use Prim.Native.Nat.{ℕ}
+use mathlib.Core.Bool.{Bool, true}
+use mathlib.Core.List.{List}
+use mathlib.Core.Path.{_≡_, sym, subst, _∙_}
+use Rattle.wire.specs.declared.Answer.{Answer}
+use Rattle.wire.specs.declared.Remembered.{Remembered}
+use Rattle.wire_memap.specs.Laws.Doing.{OpSized, Remembers}
+use Rattle.wire_memap.specs.Laws.Flight.{Fits}
+use Rattle.wire_numbers.specs.Log.{answerAt}
+use Rattle.call.specs.Change.{fresh}
+use Rattle.engine_calls.specs.Calls.{lent, callTree}
+use Rattle.engine_calls.specs.declared.EngineCall.{EngineCall}
+use Rattle.engine.specs.Laws.State.{running, CallSized}
+use Rattle.engine.specs.Laws.Step.{LentIn, StartedIn, SteppedIn, TriesIn, stepped-from}
+
+-- the call x is started on a new engine
+pub record BegunIn (x : EngineCall) (r : Bool) (t₀ m₀ c₀ row₀ words₀ b₀ t m c row words b : List ℕ) : Type 0 where
+  pub call : Fits t₀ m₀ → CallSized c₀ → LentIn (lent x) (callTree x fresh row₀ words₀ b₀) t m c row₀ words₀ row words b
+  pub due : r ≡ running c
+
+pub begun-in : (x : EngineCall) {y : EngineCall} {n : Remembered} {r : Bool} (t₀ m₀ c₀ row₀ words₀ b₀ : List ℕ) {m₁ t m c row words b : List ℕ} → y ≡ x → n ≡ fresh
+    → (OpSized m₀ → Remembers n m₁) → StartedIn y t₀ m₁ c₀ row₀ words₀ b₀ t m c row words b → r ≡ running c
+    → BegunIn x r t₀ m₀ c₀ row₀ words₀ b₀ t m c row words b
+begun-in x t₀ m₀ c₀ row₀ words₀ b₀ {m₁} {t} {m} {c} {row} {words} {b} e n h g d = record {
+  call = λ f s. let k = h (f .1) in
+      subst (λ (y : EngineCall). LentIn (lent y) (callTree y fresh row₀ words₀ b₀) t m c row₀ words₀ row words b) e
+      (subst (λ (q : Remembered). LentIn (lent _) (callTree _ q row₀ words₀ b₀) t m c row₀ words₀ row words b) (k .is ∙ n)
+      (g .lent (f .0, k .sized) s));
+  due = d;
+}
+
+-- a step with the answer of a code and a value
+pub record SteppedBy (code value : ℕ) (r : Bool) (t₀ m₀ c₀ row₀ words₀ b₀ t m c row words b : List ℕ) : Type 0 where
+  pub step : SteppedIn (answerAt code value) t₀ m₀ c₀ row₀ words₀ b₀ t m c row words b
+  pub due : r ≡ running c
+
+pub stepped-at-once : (code value : ℕ) (t₀ m₀ c row₀ words b : List ℕ) {r : Bool} {t m row : List ℕ} → TriesIn (answerAt code value) r t₀ m₀ c row₀ t m row → r ≡ true
+    → SteppedBy code value true t₀ m₀ c row₀ words b t m c row words b
+stepped-at-once code value t₀ m₀ c row₀ words b g e = record { step = g .moved e words b; due = sym (g .goes e) }
+
+pub stepped-by : (code value : ℕ) (t₀ m₀ c₀ row₀ words₀ b₀ : List ℕ) {r : Bool} {a : Answer} {t₁ m₁ row₁ t m c row words b : List ℕ}
+    → (t₁ ≡ t₀) × (m₁ ≡ m₀) × (row₁ ≡ row₀) → a ≡ answerAt code value → SteppedIn a t₁ m₁ c₀ row₁ words₀ b₀ t m c row words b → r ≡ running c
+    → SteppedBy code value r t₀ m₀ c₀ row₀ words₀ b₀ t m c row words b
+stepped-by code value t₀ m₀ c₀ row₀ words₀ b₀ {t = t} {m} {c} {row} {words} {b} e h g d = record {
+  step = subst (λ (a : Answer). SteppedIn a t₀ m₀ c₀ row₀ words₀ b₀ t m c row words b) h (stepped-from _ t₀ m₀ c₀ row₀ words₀ b₀ e g);
+  due = d;
+}
