@@ -1,9 +1,10 @@
 -- A start and a step in words that are lent, with what they answer: whether a transport call is due. Serves the proofs only.
 use Prim.Native.Nat.{ℕ}
-use mathlib.Core.Bool.{Bool, true}
+use mathlib.Core.Bool.{Bool, true, false}
 use mathlib.Core.List.{List}
-use mathlib.Core.Path.{_≡_, sym, subst, _∙_}
+use mathlib.Core.Path.{_≡_, refl, sym, subst, _∙_}
 use Rattle.wire.specs.declared.Answer.{Answer}
+use Rattle.wire.specs.declared.Answer.the-variants.{Good}
 use Rattle.wire.specs.declared.Remembered.{Remembered}
 use Rattle.wire_memap.specs.Laws.Doing.{OpSized, Remembers}
 use Rattle.wire_memap.specs.Laws.Flight.{Fits}
@@ -22,10 +23,10 @@ pub record BegunIn (x : EngineCall) (r : Bool) (t₀ m₀ c₀ row₀ words₀ b
 pub begun-in : (x : EngineCall) {y : EngineCall} {n : Remembered} {r : Bool} (t₀ m₀ c₀ row₀ words₀ b₀ : List ℕ) {m₁ t m c row words b : List ℕ} → y ≡ x → n ≡ fresh
     → (OpSized m₀ → Remembers n m₁) → StartedIn y t₀ m₁ c₀ row₀ words₀ b₀ t m c row words b → r ≡ running c
     → BegunIn x r t₀ m₀ c₀ row₀ words₀ b₀ t m c row words b
-begun-in x t₀ m₀ c₀ row₀ words₀ b₀ {m₁} {t} {m} {c} {row} {words} {b} e n h g d = record {
+begun-in x {y} t₀ m₀ c₀ row₀ words₀ b₀ {m₁} {t} {m} {c} {row} {words} {b} e n h g d = record {
   call = λ f s. let k = h (f .1) in
       subst (λ (y : EngineCall). LentIn (lent y) (callTree y fresh row₀ words₀ b₀) t m c row₀ words₀ row words b) e
-      (subst (λ (q : Remembered). LentIn (lent _) (callTree _ q row₀ words₀ b₀) t m c row₀ words₀ row words b) (k .is ∙ n)
+      (subst (λ (q : Remembered). LentIn (lent y) (callTree y q row₀ words₀ b₀) t m c row₀ words₀ row words b) (k .is ∙ n)
       (g .lent (f .0, k .sized) s));
   due = d;
 }
@@ -34,6 +35,20 @@ begun-in x t₀ m₀ c₀ row₀ words₀ b₀ {m₁} {t} {m} {c} {row} {words} 
 pub record SteppedBy (code value : ℕ) (r : Bool) (t₀ m₀ c₀ row₀ words₀ b₀ t m c row words b : List ℕ) : Type 0 where
   pub step : SteppedIn (answerAt code value) t₀ m₀ c₀ row₀ words₀ b₀ t m c row words b
   pub due : r ≡ running c
+
+-- a value that is tried twice
+pub tried-once : (code value : ℕ) (t₀ m₀ c row₀ : List ℕ) {x r : Bool} {t m row : List ℕ} → code ≡ 0 → x ≡ r → TriesIn (Good value) x t₀ m₀ c row₀ t m row
+    → TriesIn (answerAt code value) r t₀ m₀ c row₀ t m row
+tried-once code value t₀ m₀ c row₀ {r = r} {t} {m} {row} z e g =
+    subst (λ (n : ℕ). TriesIn (answerAt n value) r t₀ m₀ c row₀ t m row) (sym z) (subst (λ (y : Bool). TriesIn (Good value) y t₀ m₀ c row₀ t m row) e g)
+
+pub tried-again : (code value : ℕ) (t₀ m₀ c row₀ : List ℕ) {x r : Bool} {t₁ m₁ row₁ t m row : List ℕ} → code ≡ 0 → TriesIn (Good value) x t₀ m₀ c row₀ t₁ m₁ row₁ → x ≡ false
+    → TriesIn (Good value) r t₁ m₁ c row₁ t m row → TriesIn (answerAt code value) r t₀ m₀ c row₀ t m row
+tried-again code value t₀ m₀ c row₀ z g f h = tried-once code value t₀ m₀ c row₀ z refl (let q = g .stays f in record {
+  moved = λ e words b. stepped-from (Good value) t₀ m₀ c row₀ words b q (h .moved e words b);
+  goes = h .goes;
+  stays = λ e. let p = h .stays e in (p .0 ∙ q .0, p .1 ∙ q .1, p .2 ∙ q .2);
+})
 
 pub stepped-at-once : (code value : ℕ) (t₀ m₀ c row₀ words b : List ℕ) {r : Bool} {t m row : List ℕ} → TriesIn (answerAt code value) r t₀ m₀ c row₀ t m row → r ≡ true
     → SteppedBy code value true t₀ m₀ c row₀ words b t m c row words b
