@@ -1,20 +1,23 @@
-//! Runs the unchanged Rust engine and the port over the same instant transport,
-//! and checks that both made the same transport calls.
-//! Usage: bench CALL rust|port REPEATS   prints transport calls and nanoseconds a transport call
+//! Runs the unchanged Rust engine and the port over the same instant transport, and checks that all made the same transport calls:
+//! the port as a whole run over the answers, and as steps between which this program makes the calls.
+//! Usage: bench CALL rust|run|step REPEATS   prints transport calls and nanoseconds a transport call
 
 use arm_debug::ArmDebug;
 use rust_dap::*;
 use std::time::Instant;
 
 extern "C" {
-    fn bench_read_mem(addr: u32, budget: u32, a: *const u64, an: usize, b: *mut u8, bn: usize, l: *mut u64, ln: usize) -> u32;
-    fn bench_write_mem(addr: u32, budget: u32, a: *const u64, an: usize, b: *mut u8, bn: usize, l: *mut u64, ln: usize) -> u32;
-    fn bench_read_word(addr: u32, budget: u32, a: *const u64, an: usize, b: *mut u8, bn: usize, l: *mut u64, ln: usize) -> u32;
-    fn bench_connect_swd(budget: u32, a: *const u64, an: usize, b: *mut u8, bn: usize, l: *mut u64, ln: usize) -> u32;
-    fn bench_hw_breakpoint_set(addr: u32, budget: u32, a: *const u64, an: usize, b: *mut u8, bn: usize, l: *mut u64, ln: usize) -> u32;
-    fn bench_call_function(
-        at: u32, room: u32, polls: u32, budget: u32, a: *const u64, an: usize, b: *mut u8, bn: usize, l: *mut u64, ln: usize,
+    fn bench_run(
+        call: u32, addr: u32, budget: u32, answers: *const u64, n: usize, buf: *mut u8, bytes: usize, log: *mut u64, places: usize,
     ) -> u32;
+    fn bench_start(
+        t: &mut [u32; 7], m: &mut [u32; 12], c: &mut [u32; 9], call: u32, addr: u32, row: &mut [u32; 64], words: *mut u32, n: usize,
+        buf: *mut u8, bytes: usize,
+    ) -> bool;
+    fn bench_step(
+        t: &mut [u32; 7], m: &mut [u32; 12], c: &mut [u32; 9], code: u32, value: u32, row: &mut [u32; 64], words: *mut u32, n: usize,
+        buf: *mut u8, bytes: usize,
+    ) -> bool;
 }
 
 const ADDRESS: u32 = 0x2000_0000;
@@ -103,21 +106,38 @@ fn on_rust(call: usize, answers: &[u64], buf: &mut [u8], log: &mut [u64]) -> usi
     engine.transport().made
 }
 
-fn on_port(call: usize, answers: &[u64], buf: &mut [u8], log: &mut [u64]) -> usize {
-    let (a, an, b, bn, l, ln) = (answers.as_ptr(), answers.len(), buf.as_mut_ptr(), buf.len(), log.as_mut_ptr(), log.len());
-    let budget = BUDGET as u32;
+/// The port's run over the answers.
+fn on_run(call: usize, answers: &[u64], buf: &mut [u8], log: &mut [u64]) -> usize {
+    let (a, n, b, bytes, l, places) = (answers.as_ptr(), answers.len(), buf.as_mut_ptr(), buf.len(), log.as_mut_ptr(), log.len());
     // Safety: each pointer goes with its own length.
-    let made = unsafe {
-        match call {
-            0 => bench_read_mem(ADDRESS, budget, a, an, b, bn, l, ln),
-            1 => bench_write_mem(ADDRESS, budget, a, an, b, bn, l, ln),
-            2 => bench_read_word(ADDRESS, budget, a, an, b, bn, l, ln),
-            3 => bench_connect_swd(budget, a, an, b, bn, l, ln),
-            4 => bench_hw_breakpoint_set(ADDRESS, budget, a, an, b, bn, l, ln),
-            _ => bench_call_function(ADDRESS, ADDRESS, 9, budget, a, an, b, bn, l, ln),
-        }
-    };
-    made as usize
+    unsafe { bench_run(call as u32, ADDRESS, BUDGET as u32, a, n, b, bytes, l, places) as usize }
+}
+
+/// The port's steps: the words of the call in flight say which transport call is due (word 2), its byte (3) and its word (4).
+fn on_step(call: usize, answers: &[u64], buf: &mut [u8], log: &mut [u64]) -> usize {
+    let mut transport = Instantly { answers, log, made: 0 };
+    let (mut t, mut m, mut c, mut row) = ([0; 7], [0; 12], [0; 9], [0; 64]);
+    let (b, bytes, mut words) = (buf.as_mut_ptr(), buf.len(), [0; 1]);
+    let (w, n) = (words.as_mut_ptr(), words.len());
+    // Safety: each pointer goes with its own length.
+    let mut due = unsafe { bench_start(&mut t, &mut m, &mut c, call as u32, ADDRESS, &mut row, w, n, b, bytes) };
+    while due {
+        let answer = match t[2] {
+            0 => transport.make(u64::from(t[3]) << 32 | u64::from(t[4])),
+            1 => transport.make(1 << 48),
+            2 => transport.make(2 << 48 | u64::from(t[3])),
+            _ => unreachable!(),
+        };
+        let (code, value) = match answer {
+            Ok(v) => (0, v),
+            Err(DapError::SwdError(ack)) => (1, u32::from(ack)),
+            Err(DapError::NotSupported) => (2, 0),
+            Err(_) => (3, 0),
+        };
+        // Safety: as above.
+        due = unsafe { bench_step(&mut t, &mut m, &mut c, code, value, &mut row, w, n, b, bytes) };
+    }
+    transport.made
 }
 
 /// Answers that let a call go its usual way, all of them Ok.
@@ -139,18 +159,23 @@ fn answers(call: usize) -> Vec<u64> {
 fn main() {
     let args: Vec<String> = std::env::args().collect();
     let call = CALLS.iter().position(|c| *c == args[1]).expect("a call's name");
-    let side = if args[2] == "rust" { on_rust } else { on_port };
+    let side = match args[2].as_str() {
+        "rust" => on_rust,
+        "run" => on_run,
+        _ => on_step,
+    };
     let repeats: usize = args[3].parse().expect("a number");
     let answers = answers(call);
     let mut bytes = vec![0u8; LENGTH];
     let mut log = vec![0u64; BUDGET];
-    let mut other = (bytes.clone(), log.clone());
     let buf = if call < 2 { &mut bytes[..] } else { &mut [] };
     let made = on_rust(call, &answers, buf, &mut log);
-    let buf2 = if call < 2 { &mut other.0[..] } else { &mut [] };
-    assert_eq!(made, on_port(call, &answers, buf2, &mut other.1), "as many calls");
-    assert!(log[..made] == other.1[..made], "the same calls");
-    assert!(buf == buf2, "the same bytes");
+    for port in [on_run, on_step] {
+        let mut other = (vec![0u8; buf.len()], vec![0u64; BUDGET]);
+        assert_eq!(made, port(call, &answers, &mut other.0, &mut other.1), "as many calls");
+        assert!(log[..made] == other.1[..made], "the same calls");
+        assert!(*buf == other.0, "the same bytes");
+    }
     let start = Instant::now();
     for _ in 0..repeats {
         std::hint::black_box(side(call, &answers, buf, &mut log));
