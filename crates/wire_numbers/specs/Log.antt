@@ -2,10 +2,9 @@
 use Prim.Native.Nat.{ℕ, _+_, _*_, _/_, _%_}
 use mathlib.Core.Bool.{cond}
 use lib.Dec.{eqb}
+pub use Rattle.wire.specs.Bytes.{patternNo, patternAt}
 use Rattle.wire.specs.declared.Answer.{Answer}
 use Rattle.wire.specs.declared.Answer.the-variants as A
-use Rattle.wire.specs.declared.Pattern.{Pattern}
-use Rattle.wire.specs.declared.Pattern.the-variants as P
 use Rattle.wire.specs.declared.Call.{Call}
 use Rattle.wire.specs.declared.Call.the-variants as C
 
@@ -17,16 +16,6 @@ answerOf x =
     (cond (eqb (x / 0x100000000) 1) (A.SwdError (x % 256))
     (cond (eqb (x / 0x100000000) 2) A.NotSupported A.Other))
 
-abbrev pub patternNo : Pattern → ℕ
-patternNo P.ResetHigh = 0
-patternNo P.ResetIdle = 1
-patternNo P.JtagToSwd = 2
-patternNo P.SwdToDormant = 3
-patternNo P.AlertHigh = 4
-patternNo P.SelectionAlert = 5
-patternNo P.AlertIdle = 6
-patternNo P.SwdActivation = 7
-
 -- a transport call: its kind times 2^48, two bytes and a word
 abbrev pub codeOf : Call → ℕ
 codeOf (C.Transfer request word) = request * 0x100000000 + word
@@ -35,12 +24,6 @@ codeOf (C.Sequence p) = 0x2000000000000 + patternNo p
 codeOf (C.Pins output select wait) = 0x3000000000000 + (output * 0x10000000000 + (select * 0x100000000 + wait))
 codeOf (C.WriteBits bits word) = 0x4000000000000 + (bits * 0x100000000 + word)
 codeOf C.OutputEnable = 0x5000000000000
-
-abbrev pub patternAt : ℕ → Pattern
-patternAt n =
-    cond (eqb n 0) P.ResetHigh (cond (eqb n 1) P.ResetIdle (cond (eqb n 2) P.JtagToSwd
-    (cond (eqb n 3) P.SwdToDormant (cond (eqb n 4) P.AlertHigh (cond (eqb n 5) P.SelectionAlert
-    (cond (eqb n 6) P.AlertIdle P.SwdActivation))))))
 
 -- the transport call that a number stands for
 abbrev pub callOf : ℕ → Call
