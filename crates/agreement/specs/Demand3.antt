@@ -1,6 +1,6 @@
 -- Demand 3: what is claimed of every list of session calls over target and line (01: "The session").
 use Prim.Native.Nat.{ℕ, _+_, _-_, _<_}
-use mathlib.Core.Bool.{Bool, true, false, not, _&&_, _||_, cond}
+use mathlib.Core.Bool.{Bool, true, false, _&&_, _||_, cond}
 use mathlib.Core.List.{List, [], _∷_}
 use mathlib.Core.Path.{_≡_}
 use lib.Dec.{eqb, leb, ltb}
@@ -8,18 +8,17 @@ use lib.ListN.{length, getD}
 use Rattle.wire.specs.Bytes.{leBytes}
 use Rattle.wire.specs.Wire.{ended, spent, succeeds}
 use Rattle.wire.specs.declared.Call.{Call}
-use Rattle.wire.specs.declared.Call.the-variants as W
 use Rattle.wire.specs.declared.Answer.{Answer}
-use Rattle.wire.specs.declared.Answer.the-variants.{Good, SwdError, NotSupported, Other}
 use Rattle.wire.specs.declared.Outcome.the-variants.{Value, Failed}
 use Rattle.wire.specs.declared.Remembered.{Remembered}
 use Rattle.wire_memap.specs.Ports.{CSW-DEFAULT}
 use Rattle.target.specs.Memory.{byteAt}
+use Rattle.target.specs.Deliver.{transferElse}
 use Rattle.target.specs.declared.Target.{Target}
 use Rattle.target.specs.declared.Byte.{Byte}
 use Rattle.target.specs.declared.Byte.the-variants as B
 use Rattle.session_rules.specs.Admits.{isConnect}
-use Rattle.session_phase.specs.Phase.{loss, isSpent, opensAfter}
+use Rattle.session_phase.specs.Phase.{errorBut, loss, isSpent, opensAfter}
 use Rattle.session_rules.specs.Session.{Standing, Result, refused, ran, succeeded, called}
 use Rattle.session_rules.specs.declared.SessionCall.{SessionCall}
 use Rattle.session_rules.specs.declared.SessionCall.the-variants as S
@@ -35,19 +34,11 @@ Buffers (i ∷ items) = Bytes (i .buf) × Buffers items
 
 -- Clause 1: open by the calls, their results and the answers alone.
 abbrev pub isTransfer : Call → Bool
-isTransfer (W.Transfer request word) = true
-isTransfer W.Connect = false
-isTransfer (W.Sequence p) = false
-isTransfer (W.Pins output select wait) = false
-isTransfer (W.WriteBits bits word) = false
-isTransfer W.OutputEnable = false
+isTransfer c = transferElse (λ (_ _ : ℕ). true) false c
 
 -- an error that an ABORT follows: any but WAIT
 abbrev pub aborts : Answer → Bool
-aborts (Good v) = false
-aborts (SwdError ack) = not (eqb ack 2)
-aborts NotSupported = true
-aborts Other = true
+aborts a = errorBut (λ ack. eqb ack 2) a
 
 -- whether a transport call was lost; the one right after a failed transfer is its ABORT, whose answer is ignored
 unfoldable pub lossAmong : Bool → List Call → List Answer → Bool
@@ -147,6 +138,5 @@ standingAfter s (x ∷ xs) = standingAfter (called s (x .call) (x .buf) (x .answ
 unfoldable pub openTold : Bool → Standing → List Told → Bool
 openTold was s [] = was
 openTold was s (x ∷ xs) =
-    openTold (openNext was (x .call) (called s (x .call) (x .buf) (x .answers) .calls) (x .answers) (called s (x .call) (x .buf)
-    (x .answers) .ending))
-    (called s (x .call) (x .buf) (x .answers) .after) xs
+    let r = called s (x .call) (x .buf) (x .answers) in
+    openTold (openNext was (x .call) (r .calls) (x .answers) (r .ending)) (r .after) xs

@@ -1,7 +1,7 @@
 -- Copyright 2026 Kenta Ida. SPDX-License-Identifier: Apache-2.0. Ported from arm-debug/src/lib.rs of ciniml/rust-dap.
 -- Hardware breakpoints (000: fpb_num_comps to hw_breakpoint_at). Yes is 1 and no is 0.
 use Prim.Native.Nat.{ℕ, zero, suc, _+_, _-_, _*_, _/_, _%_}
-use mathlib.Core.Bool.{Bool, true, false, cond}
+use mathlib.Core.Bool.{cond}
 use lib.Dec.{eqb, leb}
 use Rattle.call.specs.Job.{Job, _>>=_, _>>_, return, readWord, writeWord}
 use Rattle.call_fpb.specs.Fpb as fpb
@@ -31,19 +31,12 @@ fpbNumComps = do
   ctrl ← readWord fpb.FP-CTRL
   return (numCode ctrl)
 
--- Revision 0: REPLACE, bits 31:30, is 2 for the upper halfword of the word at `addr` and 1 for the lower; then the word's
--- address. From revision 1 on: the halfword's address.
-abbrev pub compV0 : ℕ → Bool → CompValue
-compV0 addr true = P.None
-compV0 addr false = P.Some ((1 + addr / 2 % 2) * 0x40000000 + (addr - addr % 4) + fpb.COMP-ENABLE)
-
-abbrev pub compOf : ℕ → Bool → CompValue
-compOf addr true = P.Some (addr - addr % 2 + fpb.COMP-ENABLE)
-compOf addr false = compV0 addr (leb 0x20000000 addr)
-
--- what a comparator holds for a breakpoint at `addr`, if there can be one
+-- What a comparator holds for a breakpoint at `addr`, if there can be one. From revision 1 on: the halfword's address. Revision 0, which
+-- reaches code below 0x20000000 alone: REPLACE, bits 31:30, is 2 for the upper halfword and 1 for the lower; then the word's address.
 abbrev pub fpbCompValue : ℕ → ℕ → CompValue
-fpbCompValue addr rev = compOf addr (leb 1 rev)
+fpbCompValue addr rev =
+    cond (leb 1 rev) (P.Some (addr - addr % 2 + fpb.COMP-ENABLE))
+    (cond (leb 0x20000000 addr) P.None (P.Some ((1 + addr / 2 % 2) * 0x40000000 + (addr - addr % 4) + fpb.COMP-ENABLE)))
 
 -- where there is no value the call ends with no
 abbrev pub breakable : CompValue → (ℕ → Job) → Job
@@ -60,13 +53,9 @@ abbrev pub comparator : ℕ → ℕ
 comparator i = fpb.FP-COMP0 + 4 * i
 
 -- comparator i is the first free one, unless one was found before it; a free one has bit 0 clear
-abbrev pub freeIf : Bool → ℕ → Free
-freeIf true i = F.At i
-freeIf false i = F.Nowhere
-
 abbrev pub firstFree : Free → ℕ → ℕ → Free
 firstFree (F.At j) i comp = F.At j
-firstFree F.Nowhere i comp = freeIf (eqb (comp % 2) 0) i
+firstFree F.Nowhere i comp = cond (eqb (comp % 2) 0) (F.At i) F.Nowhere
 
 -- the value goes to the free comparator
 abbrev pub takeFree : ℕ → Free → Job

@@ -21,8 +21,7 @@ setApsel apsel = keeping (C.Apsel apsel)
 
 -- 1 if access is not protected, and 2 more if the CTRL-AP is known
 abbrev pub answer : Bool → ℕ → ℕ
-answer true status = status % 2 + 2
-answer false status = status % 2
+answer known status = cond known (status % 2 + 2) (status % 2)
 
 abbrev pub readStatus : Bool → Job
 readStatus known = do
@@ -38,8 +37,7 @@ nrf52ApprotectStatus = do
 
 -- whether the erase came to its end
 abbrev pub outcome : Bool → Outcome
-outcome true = Value 0
-outcome false = Failed E.CoreTimeout
+outcome erased = cond erased (Value 0) (Failed E.CoreTimeout)
 
 abbrev pub softReset : Bool → Job
 softReset erased = do

@@ -53,11 +53,7 @@ lentFlash (N.Nrf54EraseAll polls) = false
 lentFlash (N.Nrf54Program addr polls) = true
 
 abbrev pub lent : EngineCall → Bool
-lent (C.Connect c) = false
-lent (C.Memory c) = lentWords c
-lent (C.Core c) = false
-lent (C.Fpb c) = false
-lent (C.Nrf c) = lentFlash c
+lent c = elim c [ C.Memory q ↦ lentWords q | C.Nrf q ↦ lentFlash q | C.Connect _ ↦ false | C.Core _ ↦ false | C.Fpb _ ↦ false ]
 
 -- the tree of transport calls of a call, from what is remembered, a row of 64, the caller's words and buffer
 abbrev pub callTree : EngineCall → Remembered → List ℕ → List ℕ → List ℕ → Wire
@@ -79,11 +75,7 @@ coreFrame (K.FinishFunction polls) = F.Found
 coreFrame (K.CallFunction f polls) = F.Nowhere
 
 abbrev pub frameFor : EngineCall → Frame
-frameFor (C.Connect c) = F.Nowhere
-frameFor (C.Memory c) = F.Nowhere
-frameFor (C.Core c) = coreFrame c
-frameFor (C.Fpb c) = F.Nowhere
-frameFor (C.Nrf c) = F.Nowhere
+frameFor c = elim c [ C.Core q ↦ coreFrame q | C.Connect _ ↦ F.Nowhere | C.Memory _ ↦ F.Nowhere | C.Fpb _ ↦ F.Nowhere | C.Nrf _ ↦ F.Nowhere ]
 
 -- a row's first eight words
 abbrev pub frameOf : List ℕ → List ℕ

@@ -36,12 +36,8 @@ shownOf e B.GivenBytes = S.Nothing
 shownOf e B.Frame = cond (eqb (e .number) 0) S.Words S.Nothing
 
 abbrev pub isFrame : Buffer → Bool
-isFrame B.Nothing = false
-isFrame (B.Words n) = false
-isFrame (B.Bytes n) = false
-isFrame (B.GivenWords size) = false
-isFrame B.GivenBytes = false
-isFrame B.Frame = true
+isFrame b =
+    elim b [ B.Frame ↦ true | B.Nothing ↦ false | B.Words n ↦ false | B.Bytes n ↦ false | B.GivenWords size ↦ false | B.GivenBytes ↦ false ]
 
 -- the words shown: the frame, or the words that the call was lent, as the run p of the call c leaves them
 abbrev pub wordsShown : EngineCall → Buffer → List ℕ → Played → List ℕ

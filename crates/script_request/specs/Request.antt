@@ -110,9 +110,5 @@ wordsOf B.GivenBytes a = []
 wordsOf B.Frame a = replicate 8 0
 
 unfoldable pub bytesOf : Buffer → List ℕ → List ℕ
-bytesOf B.Nothing a = []
-bytesOf (B.Words n) a = []
-bytesOf (B.Bytes n) a = replicate n 0
-bytesOf (B.GivenWords size) a = []
-bytesOf B.GivenBytes a = drop 4 a
-bytesOf B.Frame a = []
+bytesOf b a =
+    elim b [ B.Bytes n ↦ replicate n 0 | B.GivenBytes ↦ drop 4 a | B.Nothing ↦ [] | B.Words n ↦ [] | B.GivenWords size ↦ [] | B.Frame ↦ [] ]

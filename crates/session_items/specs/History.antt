@@ -43,19 +43,15 @@ abbrev pub heardIf : Check → Moment → Item → List Act → Talk
 heardIf (Refuse r) x i acts = silent (x .target) (x .mem)
 heardIf Pass x i acts = talk (sessionTree (x .standing) (i .call) (i .buf)) (i .budget) acts (x .target) (x .mem)
 
+abbrev pub left : Called → Talk → Moment
+left came heard = record { standing = came .after; target = heard .target; mem = heard .mem }
+
 -- a call, by what its checks came to
 abbrev pub madeIf : Check → Moment → Item → List Act → Made
-madeIf k x i acts = record {
-  item = i;
-  before = x;
-  answers = heardIf k x i acts .answers;
-  came = checked k (x .standing) (i .call) (i .buf) (heardIf k x i acts .answers);
-  after = record {
-    standing = checked k (x .standing) (i .call) (i .buf) (heardIf k x i acts .answers) .after;
-    target = heardIf k x i acts .target;
-    mem = heardIf k x i acts .mem;
-  };
-}
+madeIf k x i acts =
+    let heard = heardIf k x i acts in
+    let came = checked k (x .standing) (i .call) (i .buf) (heard .answers) in
+    record { item = i; before = x; answers = heard .answers; came = came; after = left came heard }
 
 abbrev pub made : Moment → Item → List Act → Made
 made x i acts = madeIf (refusal (x .standing .isOpen) (i .call) (length (i .buf))) x i acts

@@ -1,7 +1,7 @@
 -- The calls that a session admits, and those it refuses, with no transport call and nothing changed (01: "The session", and
 -- "Checks go 10, 9, 8").
 use Prim.Native.Nat.{ℕ, _+_, _%_}
-use mathlib.Core.Bool.{Bool, true, false, not}
+use mathlib.Core.Bool.{Bool, true, false, not, _||_, cond}
 use lib.Dec.{eqb, leb}
 use Rattle.call_connect.specs.declared.ConnectCall.the-variants as N
 use Rattle.call_memory.specs.declared.MemoryCall.the-variants as M
@@ -36,8 +36,7 @@ isConnect (S.Core c) = false
 isConnect (S.Fpb c) = false
 
 abbrev pub unless : Bool → Refusal → Check → Check
-unless true x next = next
-unless false x next = Refuse x
+unless good x next = cond good next (Refuse x)
 
 -- where a breakpoint is set, cleared or asked for
 abbrev pub breakpoint : FpbCall → ℕ
@@ -66,8 +65,7 @@ ranged (S.Core c) bytes = true
 ranged (S.Fpb c) bytes = true
 
 abbrev pub admitted : Bool → SessionCall → Bool
-admitted true c = true
-admitted false c = isConnect c
+admitted was c = was || isConnect c
 
 -- the checks in 01's order, with a buffer of so many bytes
 abbrev pub refusal : Bool → SessionCall → ℕ → Check

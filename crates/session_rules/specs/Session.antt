@@ -1,6 +1,6 @@
 -- One call of a session, whatever is answered (01: "The session"; believed). session_phase/specs/Phase.antt has when it is open.
 use Prim.Native.Nat.{ℕ}
-use mathlib.Core.Bool.{Bool, false, _||_}
+use mathlib.Core.Bool.{Bool, false, _||_, cond}
 use mathlib.Core.List.{List, [], _∷_}
 use lib.ListN.{length, replicate}
 use Rattle.wire.specs.Wire.{Wire, done, ask, tell, play, Played, Ending, succeeds}
@@ -8,7 +8,7 @@ use Rattle.wire.specs.declared.Call.{Call}
 use Rattle.wire.specs.declared.Answer.{Answer}
 use Rattle.wire.specs.declared.Remembered.{Remembered}
 use Rattle.call.specs.Change.{fresh}
-use Rattle.engine_calls.specs.Calls.{callTree, rowFor, coreFrame, frameLeft}
+use Rattle.engine_calls.specs.Calls.{callTree, rowFor, frameFor, frameLeft}
 use Rattle.engine_calls.specs.declared.Frame.{Frame}
 use Rattle.engine_calls.specs.declared.Frame.the-variants as F
 use Rattle.session_phase.specs.Phase.{loss, rememberedFor, isSpent, opensAfter}
@@ -16,7 +16,6 @@ use Rattle.session_phase.specs.declared.Kind.{Kind}
 use Rattle.session_phase.specs.declared.Kind.the-variants as K
 use Rattle.session_rules.specs.Admits.{engineCall, isConnect, refusal}
 use Rattle.session_rules.specs.declared.SessionCall.{SessionCall}
-use Rattle.session_rules.specs.declared.SessionCall.the-variants as S
 use Rattle.session_rules.specs.declared.Refusal.{Refusal}
 use Rattle.session_rules.specs.declared.Check.{Check}
 use Rattle.session_rules.specs.declared.Check.the-variants.{Pass, Refuse}
@@ -45,23 +44,13 @@ sessionTree s c buf =
 
 -- call 23 alone leaves a frame
 abbrev pub kindBy : Frame → Kind
-kindBy F.Nowhere = K.Plain
-kindBy F.Found = K.Plain
-kindBy F.Left = K.Frame
+kindBy f = elim f [ F.Left ↦ K.Frame | F.Found ↦ K.Plain | F.Nowhere ↦ K.Plain ]
 
 abbrev pub kindOf : SessionCall → Kind
-kindOf S.ConnectSwd = K.Connect
-kindOf (S.ReadWord addr) = K.Plain
-kindOf (S.WriteWord addr word) = K.Plain
-kindOf (S.ReadMem addr) = K.Plain
-kindOf (S.WriteMem addr) = K.Plain
-kindOf (S.Core c) = kindBy (coreFrame c)
-kindOf (S.Fpb c) = K.Plain
+kindOf c = cond (isConnect c) K.Connect (kindBy (frameFor (engineCall c)))
 
 abbrev pub frameBy : Kind → Frame
-frameBy K.Connect = F.Nowhere
-frameBy K.Frame = F.Left
-frameBy K.Plain = F.Nowhere
+frameBy k = elim k [ K.Frame ↦ F.Left | K.Connect ↦ F.Nowhere | K.Plain ↦ F.Nowhere ]
 
 -- how a call of a session ends: refused, or as the engine's call ended
 pub data Result : Type 0 where
@@ -79,17 +68,15 @@ pub record Called : Type 0 where
   pub buf : List ℕ
   pub after : Standing
 
-abbrev pub settled : Standing → SessionCall → Bool → Played → Called
-settled s c lost p = record {
-  calls = p .calls;
-  ending = ran (p .ending);
-  buf = p .memory .buf;
-  after = record {
-    isOpen = opensAfter (isConnect c) lost (isSpent (p .ending)) (succeeds (p .ending));
-    remembered = p .memory .remembered;
-    frame = frameLeft (engineCall c) (p .ending) (p .memory .words) (s .frame);
-  };
+abbrev pub standsAfter : Standing → SessionCall → Bool → Played → Standing
+standsAfter s c lost p = record {
+  isOpen = opensAfter (isConnect c) lost (isSpent (p .ending)) (succeeds (p .ending));
+  remembered = p .memory .remembered;
+  frame = frameLeft (engineCall c) (p .ending) (p .memory .words) (s .frame);
 }
+
+abbrev pub settled : Standing → SessionCall → Bool → Played → Called
+settled s c lost p = record { calls = p .calls; ending = ran (p .ending); buf = p .memory .buf; after = standsAfter s c lost p }
 
 abbrev pub unchanged : Standing → Refusal → List ℕ → Called
 unchanged s x buf = record { calls = []; ending = refused x; buf = buf; after = s }

@@ -69,13 +69,17 @@ transfer t m request w = access (registerOf request (t .select)) t m w
 abbrev pub untouched : Target → List ℕ → Delivery
 untouched t m = record { reply = ok 0; target = t; mem = m }
 
+-- a transfer goes by f; every other transport call comes to the same
+abbrev pub transferElse : {A : Type 0} → (ℕ → ℕ → A) → A → Call → A
+transferElse f other (C.Transfer request w) = f request w
+transferElse f other C.Connect = other
+transferElse f other (C.Sequence p) = other
+transferElse f other (C.Pins output select wait) = other
+transferElse f other (C.WriteBits bits w) = other
+transferElse f other C.OutputEnable = other
+
 abbrev pub deliver : Target → List ℕ → Call → Delivery
-deliver t m (C.Transfer request w) = transfer t m request w
-deliver t m C.Connect = untouched t m
-deliver t m (C.Sequence p) = untouched t m
-deliver t m (C.Pins output select wait) = untouched t m
-deliver t m (C.WriteBits bits w) = untouched t m
-deliver t m C.OutputEnable = untouched t m
+deliver t m c = transferElse (transfer t m) (untouched t m) c
 
 -- the struct that the code returns of it; the memory is what the lent slice holds
 abbrev pub given : Delivery → Delivered

@@ -1,130 +1,43 @@
 -- The target with one register changed. Its record is the struct `Target` of src/lib.rt (01: "The model target"): the memory is
--- lent beside it. antt writes a record whole, so each of these names every field.
+-- lent beside it. antt writes a record whole, so each of these names every register.
 use Prim.Native.Nat.{ℕ}
 use mathlib.Core.Bool.{Bool}
 use Rattle.target.specs.declared.Target.{Target}
 
+-- a target with these registers; what it is made as (dpidr, d, width, base) stays
+abbrev pub registers : Target → (select : ℕ) (debug system : Bool) (owed : ℕ) (sticky : Bool) (rdbuff csw tar : ℕ) → Target
+registers t select debug system owed sticky rdbuff csw tar = record {
+  dpidr = t .dpidr;
+  d = t .d;
+  width = t .width;
+  base = t .base;
+  select = select;
+  cdbgpwrupreq = debug;
+  csyspwrupreq = system;
+  owed = owed;
+  sticky = sticky;
+  rdbuff = rdbuff;
+  csw = csw;
+  tar = tar;
+}
+
 abbrev pub withSelect : Target → ℕ → Target
-withSelect t v =
-    record {
-      dpidr = t .dpidr;
-      d = t .d;
-      width = t .width;
-      base = t .base;
-      select = v;
-      cdbgpwrupreq = t .cdbgpwrupreq;
-      csyspwrupreq = t
-          .csyspwrupreq;
-      owed = t .owed;
-      sticky = t .sticky;
-      rdbuff = t .rdbuff;
-      csw = t .csw;
-      tar = t .tar;
-    }
+withSelect t v = registers t v (t .cdbgpwrupreq) (t .csyspwrupreq) (t .owed) (t .sticky) (t .rdbuff) (t .csw) (t .tar)
 
 abbrev pub withRequests : Target → Bool → Bool → ℕ → Target
-withRequests t debug system n =
-    record {
-      dpidr = t .dpidr;
-      d = t .d;
-      width = t .width;
-      base = t .base;
-      select = t .select;
-      cdbgpwrupreq = debug;
-      csyspwrupreq = system;
-      owed = n;
-      sticky = t .sticky;
-      rdbuff = t .rdbuff;
-      csw = t .csw;
-      tar = t .tar;
-    }
+withRequests t debug system n = registers t (t .select) debug system n (t .sticky) (t .rdbuff) (t .csw) (t .tar)
 
 abbrev pub withOwed : Target → ℕ → Target
-withOwed t n =
-    record {
-      dpidr = t .dpidr;
-      d = t .d;
-      width = t .width;
-      base = t .base;
-      select = t .select;
-      cdbgpwrupreq = t .cdbgpwrupreq;
-      csyspwrupreq = t
-          .csyspwrupreq;
-      owed = n;
-      sticky = t .sticky;
-      rdbuff = t .rdbuff;
-      csw = t .csw;
-      tar = t .tar;
-    }
+withOwed t n = registers t (t .select) (t .cdbgpwrupreq) (t .csyspwrupreq) n (t .sticky) (t .rdbuff) (t .csw) (t .tar)
 
 abbrev pub withSticky : Target → Bool → Target
-withSticky t s =
-    record {
-      dpidr = t .dpidr;
-      d = t .d;
-      width = t .width;
-      base = t .base;
-      select = t .select;
-      cdbgpwrupreq = t .cdbgpwrupreq;
-      csyspwrupreq = t
-          .csyspwrupreq;
-      owed = t .owed;
-      sticky = s;
-      rdbuff = t .rdbuff;
-      csw = t .csw;
-      tar = t .tar;
-    }
+withSticky t s = registers t (t .select) (t .cdbgpwrupreq) (t .csyspwrupreq) (t .owed) s (t .rdbuff) (t .csw) (t .tar)
 
 abbrev pub withRdbuff : Target → ℕ → Target
-withRdbuff t v =
-    record {
-      dpidr = t .dpidr;
-      d = t .d;
-      width = t .width;
-      base = t .base;
-      select = t .select;
-      cdbgpwrupreq = t .cdbgpwrupreq;
-      csyspwrupreq = t
-          .csyspwrupreq;
-      owed = t .owed;
-      sticky = t .sticky;
-      rdbuff = v;
-      csw = t .csw;
-      tar = t .tar;
-    }
+withRdbuff t v = registers t (t .select) (t .cdbgpwrupreq) (t .csyspwrupreq) (t .owed) (t .sticky) v (t .csw) (t .tar)
 
 abbrev pub withCsw : Target → ℕ → Target
-withCsw t v =
-    record {
-      dpidr = t .dpidr;
-      d = t .d;
-      width = t .width;
-      base = t .base;
-      select = t .select;
-      cdbgpwrupreq = t .cdbgpwrupreq;
-      csyspwrupreq = t
-          .csyspwrupreq;
-      owed = t .owed;
-      sticky = t .sticky;
-      rdbuff = t .rdbuff;
-      csw = v;
-      tar = t .tar;
-    }
+withCsw t v = registers t (t .select) (t .cdbgpwrupreq) (t .csyspwrupreq) (t .owed) (t .sticky) (t .rdbuff) v (t .tar)
 
 abbrev pub withTar : Target → ℕ → Target
-withTar t v =
-    record {
-      dpidr = t .dpidr;
-      d = t .d;
-      width = t .width;
-      base = t .base;
-      select = t .select;
-      cdbgpwrupreq = t .cdbgpwrupreq;
-      csyspwrupreq = t
-          .csyspwrupreq;
-      owed = t .owed;
-      sticky = t .sticky;
-      rdbuff = t .rdbuff;
-      csw = t .csw;
-      tar = v;
-    }
+withTar t v = registers t (t .select) (t .cdbgpwrupreq) (t .csyspwrupreq) (t .owed) (t .sticky) (t .rdbuff) (t .csw) v

@@ -34,9 +34,7 @@ unfoldable pub talk : Wire → ℕ → List Act → Target → List ℕ → Talk
 talk (done m o) n acts t mem = silent t mem
 talk (ask m c f) zero acts t mem = silent t mem
 talk (ask m c f) (suc n) acts t mem =
-    heardFirst (line t mem c (actNow acts) .answer)
-    (talk (f (line t mem c (actNow acts) .answer)) n (actsThen acts) (line t mem c (actNow acts) .target) (line t mem c (actNow acts) .mem))
+    let h = line t mem c (actNow acts) in heardFirst (h .answer) (talk (f (h .answer)) n (actsThen acts) (h .target) (h .mem))
 talk (tell m c w) zero acts t mem = silent t mem
 talk (tell m c w) (suc n) acts t mem =
-    heardFirst (line t mem c (actNow acts) .answer)
-    (talk w n (actsThen acts) (line t mem c (actNow acts) .target) (line t mem c (actNow acts) .mem))
+    let h = line t mem c (actNow acts) in heardFirst (h .answer) (talk w n (actsThen acts) (h .target) (h .mem))

@@ -7,36 +7,33 @@ use Rattle.wire.specs.declared.Outcome.{Outcome}
 use Rattle.wire.specs.declared.Outcome.the-variants.{Value, Failed}
 use Rattle.wire_numbers.specs.declared.CallEnding.{CallEnding}
 
-abbrev pub errorNumber : ArmError → ℕ
-errorNumber (E.Transfer ack) = 1
-errorNumber E.Wait = 2
-errorNumber E.NotSupported = 3
-errorNumber E.PowerUpTimeout = 4
-errorNumber E.CoreTimeout = 5
-errorNumber E.NoTarget = 6
-errorNumber E.Internal = 7
-errorNumber E.Range = 8
-errorNumber E.Align = 9
-errorNumber E.TableEnd = 12
+abbrev pub ending : ℕ → ℕ → CallEnding
+ending n v = record { number = n; value = v }
 
 -- a failure's value is 0 except for Transfer
+abbrev pub errorEnding : ArmError → CallEnding
+errorEnding (E.Transfer ack) = ending 1 ack
+errorEnding E.Wait = ending 2 0
+errorEnding E.NotSupported = ending 3 0
+errorEnding E.PowerUpTimeout = ending 4 0
+errorEnding E.CoreTimeout = ending 5 0
+errorEnding E.NoTarget = ending 6 0
+errorEnding E.Internal = ending 7 0
+errorEnding E.Range = ending 8 0
+errorEnding E.Align = ending 9 0
+errorEnding E.TableEnd = ending 12 0
+
+abbrev pub errorNumber : ArmError → ℕ
+errorNumber e = errorEnding e .number
+
 abbrev pub errorValue : ArmError → ℕ
-errorValue (E.Transfer ack) = ack
-errorValue E.Wait = 0
-errorValue E.NotSupported = 0
-errorValue E.PowerUpTimeout = 0
-errorValue E.CoreTimeout = 0
-errorValue E.NoTarget = 0
-errorValue E.Internal = 0
-errorValue E.Range = 0
-errorValue E.Align = 0
-errorValue E.TableEnd = 0
+errorValue e = errorEnding e .value
 
 abbrev pub resultOf : Outcome → CallEnding
-resultOf (Value v) = record { number = 0; value = v }
-resultOf (Failed e) = record { number = errorNumber e; value = errorValue e }
+resultOf (Value v) = ending 0 v
+resultOf (Failed e) = errorEnding e
 
 -- Spent is 11
 abbrev pub endingOf : Ending → CallEnding
 endingOf (ended o) = resultOf o
-endingOf spent = record { number = 11; value = 0 }
+endingOf spent = ending 11 0
