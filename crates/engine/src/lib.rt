@@ -210,8 +210,6 @@ pub fn start_in(
     asked(t, m, c, a, row, buf);
 }
 
-
-
 // One step in words that are lent. A call that has ended stays as it is.
 pub fn step_in(
     t: &mut [u32; 7],
@@ -237,7 +235,13 @@ pub fn step_in(
 
 // The step of a call over the row with the value v for an answer, where that is a word of a run and another follows: true, and it is
 // taken at once, as nearly all transfers of a memory call are such words; or false, and nothing is done.
-pub fn runs_in(t: &mut [u32; 7], m: &mut [u32; 12], c: &[u32; 9], v: u32, row: &mut [u32; 64]) -> bool
+pub fn runs_in(
+    t: &mut [u32; 7],
+    m: &mut [u32; 12],
+    c: &[u32; 9],
+    v: u32,
+    row: &mut [u32; 64],
+) -> bool
     ensures { λ r. ⌜ TriesIn (Good v) r (now (t .entry)) (now (m .entry)) (now (c .entry)) (now (row .entry)) (now (t .exit)) (now (m .exit)) (now (row .exit)) ⌝ }
 {
     if c[STATUS] == 0 {
@@ -247,7 +251,13 @@ pub fn runs_in(t: &mut [u32; 7], m: &mut [u32; 12], c: &[u32; 9], v: u32, row: &
 }
 
 // The same with the value of any access that another follows.
-pub fn moves_in(t: &mut [u32; 7], m: &mut [u32; 12], c: &[u32; 9], v: u32, row: &mut [u32; 64]) -> bool
+pub fn moves_in(
+    t: &mut [u32; 7],
+    m: &mut [u32; 12],
+    c: &[u32; 9],
+    v: u32,
+    row: &mut [u32; 64],
+) -> bool
     ensures { λ r. ⌜ TriesIn (Good v) r (now (t .entry)) (now (m .entry)) (now (c .entry)) (now (row .entry)) (now (t .exit)) (now (m .exit)) (now (row .exit)) ⌝ }
 {
     if c[STATUS] == 0 {
