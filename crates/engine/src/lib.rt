@@ -223,9 +223,9 @@ pub fn step_in(
     ensures { λ _. ⌜ SteppedIn a (now (t .entry)) (now (m .entry)) (now (c .entry)) (now (row .entry)) (now (words .entry)) (now (buf .entry))
         (now (t .exit)) (now (m .exit)) (now (c .exit)) (now (row .exit)) (now (words .exit)) (now (buf .exit)) ⌝ }
 {
-    let status = c[STATUS];
-    if status < ENDED {
-        if status == 1 {
+    let stands = c[STATUS];
+    if stands < ENDED {
+        if stands == 1 {
             step_over(t, m, c, a, words, buf);
             return;
         }
@@ -242,7 +242,8 @@ pub fn runs_in(
     v: u32,
     row: &mut [u32; 64],
 ) -> bool
-    ensures { λ r. ⌜ TriesIn (Good v) r (now (t .entry)) (now (m .entry)) (now (c .entry)) (now (row .entry)) (now (t .exit)) (now (m .exit)) (now (row .exit)) ⌝ }
+    ensures { λ r. ⌜ TriesIn (Good v) r (now (t .entry)) (now (m .entry)) (now (c .entry)) (now (row .entry))
+        (now (t .exit)) (now (m .exit)) (now (row .exit)) ⌝ }
 {
     if c[STATUS] == 0 {
         return wire_memap::op_runs(t, m, v, row);
@@ -258,7 +259,8 @@ pub fn moves_in(
     v: u32,
     row: &mut [u32; 64],
 ) -> bool
-    ensures { λ r. ⌜ TriesIn (Good v) r (now (t .entry)) (now (m .entry)) (now (c .entry)) (now (row .entry)) (now (t .exit)) (now (m .exit)) (now (row .exit)) ⌝ }
+    ensures { λ r. ⌜ TriesIn (Good v) r (now (t .entry)) (now (m .entry)) (now (c .entry)) (now (row .entry))
+        (now (t .exit)) (now (m .exit)) (now (row .exit)) ⌝ }
 {
     if c[STATUS] == 0 {
         return wire_memap::op_moves(t, m, v, row);

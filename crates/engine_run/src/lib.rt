@@ -124,7 +124,8 @@ pub fn run(
 ) -> Ran
     ensures { λ y. ⌜ RanAs x
         (play (callTree x r (rowFor x (now (frame .entry))) (now (words .entry)) (now (buf .entry))) (within budget (now (answers .entry))))
-        y (now (frame .entry)) (now (words .entry)) (now (frame .exit)) (now (words .exit)) (now (buf .exit)) (now (log .entry)) (now (log .exit)) ⌝ }
+        y (now (frame .entry)) (now (words .entry)) (now (frame .exit)) (now (words .exit)) (now (buf .exit))
+        (now (log .entry)) (now (log .exit)) ⌝ }
 {
     let f = engine_calls::frame_for(x);
     let before = *frame;

@@ -47,6 +47,28 @@ pub record Reach : Type 0 where
   pub request : ℕ
   pub word : ℕ
 
+-- their numbers, as far as laws name them
+abbrev pub UNIT : ℕ
+UNIT = 1
+
+abbrev pub LAST-READ : ℕ
+LAST-READ = 2
+
+abbrev pub PULL : ℕ
+PULL = 3
+
+abbrev pub PUSH : ℕ
+PUSH = 4
+
+abbrev pub CSW-SENT : ℕ
+CSW-SENT = 6
+
+abbrev pub TAR-SENT : ℕ
+TAR-SENT = 7
+
+abbrev pub FIRST : ℕ
+FIRST = 9
+
 abbrev pub phases : List Phase
 phases = Only ∷ Unit ∷ Last ∷ Pull ∷ Push ∷ Posted ∷ Csw ∷ Tar ∷ Sent ∷ []
 

@@ -16,14 +16,16 @@ use Rattle.wire.specs.Laws.Flight as W
 use Rattle.wire.specs.declared.Went as WW
 use Rattle.wire.specs.declared.Call.{Call}
 use Rattle.wire.specs.declared.Went.the-variants.{Again, Ended}
+use Rattle.wire.specs.Laws.Numbers.{less}
 use Rattle.wire.specs.Laws.Rows.{noneBelow, noneFrom, past-rows, past, from-least}
 use Rattle.wire.specs.Laws.Flight.{Sized, transferOf, transferTree, begun, begun-is, begun-sized, begun-counted}
 use Rattle.wire.specs.declared.ArmError.{ArmError}
 use Rattle.wire.specs.declared.Outcome.{Outcome}
 use Rattle.wire.specs.declared.Outcome.the-variants.{Value, Failed}
 use Rattle.wire_memap.specs.Action.{Then, Action, onValue, _>>=_, _>>_, return, cond, transferring, remember, remembering}
-use Rattle.wire_memap.specs.Ports.{selectOf, selected, cswKnown, apAccess, apWrite, apRead, dpRead, ensureCsw, CSW-DEFAULT, RDBUFF, TAR, DRW}
+use Rattle.wire_memap.specs.Ports.{selectOf, selected, cswKnown, apAccess, apWrite, apRead, dpRead, ensureCsw, dpReading, dpWriting, apReading, apWriting, CSW-DEFAULT, SELECT, RDBUFF, CSW, TAR, DRW}
 use Rattle.wire_memap.specs.Words.{flush, place, pull, push, pushAll, rowAt}
+use Rattle.wire_memap.specs.Laws.Doing.{UNIT, LAST-READ, PULL, PUSH, CSW-SENT, TAR-SENT, FIRST}
 use Rattle.wire_memap.specs.Laws.Doing.{Phase, Kind, Task, Doing, Reach, OpSized, phaseOf, kindOf, taskOf, doingOf, reachOf, rememberedOf, stands, by-words}
 use Rattle.wire_memap.specs.Laws.Doing as P
 use Rattle.wire_memap.specs.declared.Went.{Went}
@@ -48,7 +50,7 @@ reachAfter r k m o = stageAfter (r .selecting) r k m o
 abbrev pub dataAt : Kind → Task → ℕ → Action
 dataAt P.ReadWord t n = apRead DRW
 dataAt P.WriteWord t n = apWrite DRW (t .word) >> flush
-dataAt P.ReadWords t n = cond (eqb n 0) (return 0) (apAccess 0xF DRW 0 >> pull (t .last) (n - 1))
+dataAt P.ReadWords t n = cond (eqb n 0) (return 0) (apAccess (apReading DRW) DRW 0 >> pull (t .last) (n - 1))
 dataAt P.WriteWords t n = pushAll (t .last) n
 
 abbrev pub atTar : Task → ℕ → Action
@@ -102,21 +104,18 @@ fails P.Pull t l k m e = refl
 fails P.Last t l k m e = refl
 fails P.Push t l k m e = refl
 
-less : (n : ℕ) → n ≡ suc n - 1
-less n = omega arith
-
 -- one word, at a count that the code takes down by one
 pub pull-more : (last l : ℕ) (k : Then) (m : Memory) → (l ≡ 0 → ⊥)
-    → pull last l k m ≡ transferring 0xF 0 (onValue (λ v. place (last - l) v >> pull last (l - 1)) k) m
+    → pull last l k m ≡ transferring (apReading DRW) 0 (onValue (λ v. place (last - l) v >> pull last (l - 1)) k) m
 unfolding pull
 pull-more last zero k m h = absurd (h refl)
-pull-more last (suc l) k m h = ap (λ (j : ℕ). transferring 0xF 0 (onValue (λ v. place (last - suc l) v >> pull last j) k) m) (less l)
+pull-more last (suc l) k m h = ap (λ (j : ℕ). transferring (apReading DRW) 0 (onValue (λ v. place (last - suc l) v >> pull last j) k) m) (less l)
 
 pub push-more : (last l : ℕ) (k : Then) (m : Memory) → (l ≡ 0 → ⊥)
-    → push last l k m ≡ transferring 0xD (rowAt (last - (l - 1)) m) (next (push last (l - 1)) k) m
+    → push last l k m ≡ transferring (apWriting DRW) (rowAt (last - (l - 1)) m) (next (push last (l - 1)) k) m
 unfolding push
 push-more last zero k m h = absurd (h refl)
-push-more last (suc l) k m h = ap (λ (j : ℕ). transferring 0xD (rowAt (last - j) m) (next (push last j) k) m) (less l)
+push-more last (suc l) k m h = ap (λ (j : ℕ). transferring (apWriting DRW) (rowAt (last - j) m) (next (push last j) k) m) (less l)
 
 -- the words of an operation in flight are as many as they must be
 abbrev pub Fits : List ℕ → List ℕ → Type 0
@@ -167,16 +166,16 @@ direct-begins n request word t m ws l f = record {
 }
 
 select-begins : (n request word s : ℕ) (t m ws : List ℕ) → n < 16 → Fits t m
-    → Begins (λ k. transferring 8 s (stageAfter true (record { selecting = true; select = s; request = request % 256; word = word }) (inPhase n m k))) m ws
-    (begun 8 s t) (waiting n request word s m)
+    → Begins (λ k. transferring (dpWriting SELECT) s (stageAfter true (record { selecting = true; select = s; request = request % 256; word = word }) (inPhase n m k))) m ws
+    (begun (dpWriting SELECT) s t) (waiting n request word s m)
 select-begins n request word s t m ws l f = record {
   tree = λ b k. by-words
-      (λ m. transferring 8 s (stageAfter true (record { selecting = true; select = s; request = request % 256; word = word }) (inPhase n m k)) (stands m ws b)
-      ≡ startedTree (begun 8 s t) (waiting n request word s m) k (stands (waiting n request word s m) ws b))
-      (λ m₀ m₁ m₂ m₃ m₄ m₅ m₆ m₇ m₈ m₉ m₁₀ m₁₁. rw (mod16 n l) (rw (mod16-up n l) (rw (le-leb 16 (n + 16) (omega arith)) (begun-is 8 s t (f .0) _ _))))
+      (λ m. transferring (dpWriting SELECT) s (stageAfter true (record { selecting = true; select = s; request = request % 256; word = word }) (inPhase n m k)) (stands m ws b)
+      ≡ startedTree (begun (dpWriting SELECT) s t) (waiting n request word s m) k (stands (waiting n request word s m) ws b))
+      (λ m₀ m₁ m₂ m₃ m₄ m₅ m₆ m₇ m₈ m₉ m₁₀ m₁₁. rw (mod16 n l) (rw (mod16-up n l) (rw (le-leb 16 (n + 16) (omega arith)) (begun-is (dpWriting SELECT) s t (f .0) _ _))))
       m (f .1);
-  fits = (begun-sized 8 s t (f .0), by-words (λ m. OpSized (waiting n request word s m)) (λ _ _ _ _ _ _ _ _ _ _ _ _. refl) m (f .1));
-  counted = begun-counted 8 s t (f .0);
+  fits = (begun-sized (dpWriting SELECT) s t (f .0), by-words (λ m. OpSized (waiting n request word s m)) (λ _ _ _ _ _ _ _ _ _ _ _ _. refl) m (f .1));
+  counted = begun-counted (dpWriting SELECT) s t (f .0);
 }
 
 pub begins-as : {p : Action} {m₀ ws t m u v : List ℕ} → (u ≡ t) × (v ≡ m) → Begins p m₀ ws t m → Begins p m₀ ws u v
@@ -194,7 +193,7 @@ access-known n request addr word s t m is e g l f ws =
     begins-as g (begins-of (λ b k. simp (eq-eqb _ _ (sym is ∙ e))) (direct-begins n request word t m ws l f))
 
 pub access-selects : (n request addr word s : ℕ) (t m : List ℕ) {u v : List ℕ} → s ≡ selectOf (rememberedOf m) addr → (s ≡ getD m 9 0 → ⊥)
-    → (u ≡ begun 8 s t) × (v ≡ waiting n request word s m) → Accessed n request addr word t m u v
+    → (u ≡ begun (dpWriting SELECT) s t) × (v ≡ waiting n request word s m) → Accessed n request addr word t m u v
 access-selects n request addr word s t m is e g l f ws =
     begins-as g (begins-of (λ b k. simp (ne-eqb _ _ (λ q. e (is ∙ q))) (rw (← is) refl)) (select-begins n request word s t m ws l f))
 
@@ -206,43 +205,43 @@ abbrev pub Begun : Action → List ℕ → List ℕ → List ℕ → List ℕ �
 Begun p t₀ m₀ t m = (ws : List ℕ) → BegunAt p ws t₀ m₀ t m
 
 -- a run of reads: RDBUFF, or one word more
-pub pull-ends : (t m : List ℕ) {u v : List ℕ} (more : ℕ) → more ≡ 0 → (u ≡ begun 14 0 t) × (v ≡ set m 0 2) → Begun (pull (getD m 2 0) more) t m u v
+pub pull-ends : (t m : List ℕ) {u v : List ℕ} (more : ℕ) → more ≡ 0 → (u ≡ begun (dpReading RDBUFF) 0 t) × (v ≡ set m 0 LAST-READ) → Begun (pull (getD m 2 0) more) t m u v
 unfolding pull
-pull-ends t m more z g ws f = begins-as g (begins-of (λ b k. rw z refl) (direct-begins 2 14 0 t m ws (omega arith) f))
+pull-ends t m more z g ws f = begins-as g (begins-of (λ b k. rw z refl) (direct-begins LAST-READ (dpReading RDBUFF) 0 t m ws (omega arith) f))
 
-pub pull-goes : (t m : List ℕ) {u v : List ℕ} (more : ℕ) → (more ≡ 0 → ⊥) → (u ≡ begun 15 0 t) × (v ≡ set (set m 1 more) 0 3)
+pub pull-goes : (t m : List ℕ) {u v : List ℕ} (more : ℕ) → (more ≡ 0 → ⊥) → (u ≡ begun (apReading DRW) 0 t) × (v ≡ set (set m 1 more) 0 PULL)
     → Begun (pull (getD m 2 0) more) t m u v
 pull-goes t m more z g ws f = begins-as g (record { tree = λ b k. here b k ∙ there .tree b k; fits = there .fits; counted = there .counted })
   where
     m₁ : List ℕ
     m₁ = set m 1 more
 
-    there : Begins (λ k. transferring 15 0 (inPhase 3 m₁ k)) m₁ ws (begun 15 0 t) (set m₁ 0 3)
-    there = direct-begins 3 15 0 t m₁ ws (omega arith) (f .0, length-set m 1 more ∙ f .1)
+    there : Begins (λ k. transferring (apReading DRW) 0 (inPhase PULL m₁ k)) m₁ ws (begun (apReading DRW) 0 t) (set m₁ 0 PULL)
+    there = direct-begins PULL (apReading DRW) 0 t m₁ ws (omega arith) (f .0, length-set m 1 more ∙ f .1)
 
-    here : (b : List ℕ) (k : Then) → pull (getD m 2 0) more k (stands m ws b) ≡ transferring 15 0 (inPhase 3 m₁ k) (stands m₁ ws b)
-    here b k = by-words (λ m. pull (getD m 2 0) more k (stands m ws b) ≡ transferring 15 0 (inPhase 3 (set m 1 more) k) (stands (set m 1 more) ws b))
+    here : (b : List ℕ) (k : Then) → pull (getD m 2 0) more k (stands m ws b) ≡ transferring (apReading DRW) 0 (inPhase PULL m₁ k) (stands m₁ ws b)
+    here b k = by-words (λ m. pull (getD m 2 0) more k (stands m ws b) ≡ transferring (apReading DRW) 0 (inPhase PULL (set m 1 more) k) (stands (set m 1 more) ws b))
         (λ m₀ m₁ m₂ m₃ m₄ m₅ m₆ m₇ m₈ m₉ m₁₀ m₁₁. pull-more m₂ more k _ z) m (f .1)
 
 -- a run of writes: RDBUFF, or one word more
-pub push-ends : (t m ws : List ℕ) {u v : List ℕ} (more : ℕ) → more ≡ 0 → (u ≡ begun 14 0 t) × (v ≡ set m 0 1)
+pub push-ends : (t m ws : List ℕ) {u v : List ℕ} (more : ℕ) → more ≡ 0 → (u ≡ begun (dpReading RDBUFF) 0 t) × (v ≡ set m 0 UNIT)
     → BegunAt (push (getD m 2 0) more) ws t m u v
 unfolding push
-push-ends t m ws more z g f = begins-as g (begins-of (λ b k. rw z refl) (direct-begins 1 14 0 t m ws (omega arith) f))
+push-ends t m ws more z g f = begins-as g (begins-of (λ b k. rw z refl) (direct-begins UNIT (dpReading RDBUFF) 0 t m ws (omega arith) f))
 
 pub push-goes : (t m ws : List ℕ) {u v : List ℕ} (more w : ℕ) → (more ≡ 0 → ⊥) → w ≡ getD ws (getD m 2 0 - (more - 1)) 0
-    → (u ≡ begun 13 w t) × (v ≡ set (set m 1 more) 0 4) → BegunAt (push (getD m 2 0) more) ws t m u v
+    → (u ≡ begun (apWriting DRW) w t) × (v ≡ set (set m 1 more) 0 PUSH) → BegunAt (push (getD m 2 0) more) ws t m u v
 push-goes t m ws more w z e g f = begins-as g (record { tree = λ b k. here b k ∙ there .tree b k; fits = there .fits; counted = there .counted })
   where
     m₁ : List ℕ
     m₁ = set m 1 more
 
-    there : Begins (λ k. transferring 13 w (inPhase 4 m₁ k)) m₁ ws (begun 13 w t) (set m₁ 0 4)
-    there = direct-begins 4 13 w t m₁ ws (omega arith) (f .0, length-set m 1 more ∙ f .1)
+    there : Begins (λ k. transferring (apWriting DRW) w (inPhase PUSH m₁ k)) m₁ ws (begun (apWriting DRW) w t) (set m₁ 0 PUSH)
+    there = direct-begins PUSH (apWriting DRW) w t m₁ ws (omega arith) (f .0, length-set m 1 more ∙ f .1)
 
-    here : (b : List ℕ) (k : Then) → push (getD m 2 0) more k (stands m ws b) ≡ transferring 13 w (inPhase 4 m₁ k) (stands m₁ ws b)
+    here : (b : List ℕ) (k : Then) → push (getD m 2 0) more k (stands m ws b) ≡ transferring (apWriting DRW) w (inPhase PUSH m₁ k) (stands m₁ ws b)
     here b k = by-words (λ m. w ≡ getD ws (getD m 2 0 - (more - 1)) 0
-        → push (getD m 2 0) more k (stands m ws b) ≡ transferring 13 w (inPhase 4 (set m 1 more) k) (stands (set m 1 more) ws b))
+        → push (getD m 2 0) more k (stands m ws b) ≡ transferring (apWriting DRW) w (inPhase PUSH (set m 1 more) k) (stands (set m 1 more) ws b))
         (λ m₀ m₁ m₂ m₃ m₄ m₅ m₆ m₇ m₈ m₉ m₁₀ m₁₁ e. rw e (push-more m₂ more k _ z)) m (f .1) e
 
 -- a tree that is an action goes on as the action, and one that is over ends
@@ -263,11 +262,11 @@ empty m = emptyRead (getD m 3 0) (getD m 1 0)
 
 -- TAR is the last access of such a run
 abbrev pub endsAtTar : ℕ → Bool → Bool
-endsAtTar phase none = cond none (eqb phase 7) false
+endsAtTar phase none = cond none (eqb phase TAR-SENT) false
 
 -- whether one more access follows the value of the one in flight
 abbrev pub followsAt : ℕ → Bool → Bool
-followsAt phase none = cond (endsAtTar phase none) false (ltb 2 phase)
+followsAt phase none = cond (endsAtTar phase none) false (ltb LAST-READ phase)
 
 abbrev pub following : List ℕ → Bool
 following m = followsAt (getD m 0 0) (empty m)
@@ -277,7 +276,7 @@ dataAfter m = dataAt (kindOf (getD m 3 0)) (taskOf m) (getD m 1 0)
 
 -- a run of reads begins with the access that asks for its first word
 pub data-reads : (m ws : List ℕ) → getD m 3 0 ≡ 2 → empty m ≡ false
-    → (b : List ℕ) (k : Then) → dataAfter m k (stands m ws b) ≡ apAccess 15 DRW 0 (inPhase 9 m k) (stands m ws b)
+    → (b : List ℕ) (k : Then) → dataAfter m k (stands m ws b) ≡ apAccess (apReading DRW) DRW 0 (inPhase FIRST m k) (stands m ws b)
 data-reads m ws e h b k = simp e (simp none)
   where
     none : eqb (getD m 1 0) 0 ≡ false
@@ -285,10 +284,10 @@ data-reads m ws e h b k = simp e (simp none)
 
 -- a run of writes begins with the first of its words
 pub data-writes : (m ws : List ℕ) (w : ℕ) → noneBelow 3 (getD m 3 0) → w ≡ getD ws (getD m 2 0 - (getD m 1 0 - 1)) 0
-    → (b : List ℕ) (k : Then) → dataAfter m k (stands m ws b) ≡ apAccess 13 DRW w (inPhase 4 m k) (stands m ws b)
+    → (b : List ℕ) (k : Then) → dataAfter m k (stands m ws b) ≡ apAccess (apWriting DRW) DRW w (inPhase PUSH m k) (stands m ws b)
 data-writes m ws w n e b k =
     ap (λ (x : Kind). dataAt x (taskOf m) (getD m 1 0) k (stands m ws b)) (sym (past-rows P.kinds (getD m 3 0) P.WriteWords n))
-    ∙ ap (λ (x : ℕ). apAccess 13 DRW x (inPhase 4 m k) (stands m ws b)) (sym e)
+    ∙ ap (λ (x : ℕ). apAccess (apWriting DRW) DRW x (inPhase PUSH m k) (stands m ws b)) (sym e)
 
 -- what the code does after each answer, as trees over the words
 abbrev pub tarAfter : List ℕ → Action
@@ -322,15 +321,15 @@ raw-begins c t m u g ws f = let h = g (f .0) in record {
 }
 
 -- TAR once CSW is known
-pub tar-begins : (t m : List ℕ) {u v : List ℕ} → Accessed 7 5 4 (getD (set m 10 1) 4 0) t (set m 10 1) u v → Begun (tarAfter m) t m u v
+pub tar-begins : (t m : List ℕ) {u v : List ℕ} → Accessed TAR-SENT (apWriting TAR) TAR (getD (set m 10 1) 4 0) t (set m 10 1) u v → Begun (tarAfter m) t m u v
 tar-begins t m {u} {v} a ws f = record { tree = λ b k. here b k ∙ there .tree b k; fits = there .fits; counted = there .counted }
   where
-    there : Begins (λ k. apAccess 5 4 (getD (set m 10 1) 4 0) (inPhase 7 (set m 10 1) k)) (set m 10 1) ws u v
+    there : Begins (λ k. apAccess (apWriting TAR) TAR (getD (set m 10 1) 4 0) (inPhase TAR-SENT (set m 10 1) k)) (set m 10 1) ws u v
     there = a (omega arith) (f .0, length-set m 10 1 ∙ f .1) ws
 
-    here : (b : List ℕ) (k : Then) → tarAfter m k (stands m ws b) ≡ apAccess 5 4 (getD (set m 10 1) 4 0) (inPhase 7 (set m 10 1) k) (stands (set m 10 1) ws b)
+    here : (b : List ℕ) (k : Then) → tarAfter m k (stands m ws b) ≡ apAccess (apWriting TAR) TAR (getD (set m 10 1) 4 0) (inPhase TAR-SENT (set m 10 1) k) (stands (set m 10 1) ws b)
     here b k = by-words
-        (λ m. tarAfter m k (stands m ws b) ≡ apAccess 5 4 (getD (set m 10 1) 4 0) (inPhase 7 (set m 10 1) k) (stands (set m 10 1) ws b))
+        (λ m. tarAfter m k (stands m ws b) ≡ apAccess (apWriting TAR) TAR (getD (set m 10 1) 4 0) (inPhase TAR-SENT (set m 10 1) k) (stands (set m 10 1) ws b))
         (λ m₀ m₁ m₂ m₃ m₄ m₅ m₆ m₇ m₈ m₉ m₁₀ m₁₁. refl) m (f .1)
 
 -- a task: TAR, or CSW before it
@@ -344,34 +343,34 @@ tasked-sized : (kind addr word n last : ℕ) (m : List ℕ) → OpSized m → Op
 tasked-sized kind addr word n last = by-words (λ m. OpSized (tasked kind addr word n last m)) (λ _ _ _ _ _ _ _ _ _ _ _ _. refl)
 
 module _ (kind addr word n last : ℕ) (t m : List ℕ) {u v : List ℕ} where
-  pub task-known : getD (tasked kind addr word n last m) 10 0 ≡ 1 → Accessed 7 5 4 addr t (tasked kind addr word n last m) u v
+  pub task-known : getD (tasked kind addr word n last m) 10 0 ≡ 1 → Accessed TAR-SENT (apWriting TAR) TAR addr t (tasked kind addr word n last m) u v
       → Begun (ensuringTask (taskBy kind addr word last) n) t m u v
   task-known e a ws f = record { tree = λ b k. here b k ∙ there .tree b k; fits = there .fits; counted = there .counted }
     where
       m₅ : List ℕ → List ℕ
       m₅ m = tasked kind addr word n last m
 
-      there : Begins (λ k. apAccess 5 4 addr (inPhase 7 (m₅ m) k)) (m₅ m) ws u v
+      there : Begins (λ k. apAccess (apWriting TAR) TAR addr (inPhase TAR-SENT (m₅ m) k)) (m₅ m) ws u v
       there = a (omega arith) (f .0, tasked-sized kind addr word n last m (f .1)) ws
 
-      here : (b : List ℕ) (k : Then) → ensuringTask (taskBy kind addr word last) n k (stands m ws b) ≡ apAccess 5 4 addr (inPhase 7 (m₅ m) k) (stands (m₅ m) ws b)
+      here : (b : List ℕ) (k : Then) → ensuringTask (taskBy kind addr word last) n k (stands m ws b) ≡ apAccess (apWriting TAR) TAR addr (inPhase TAR-SENT (m₅ m) k) (stands (m₅ m) ws b)
       here b k = by-words (λ m. getD (m₅ m) 10 0 ≡ 1
-          → ensuringTask (taskBy kind addr word last) n k (stands m ws b) ≡ apAccess 5 4 addr (inPhase 7 (m₅ m) k) (stands (m₅ m) ws b))
+          → ensuringTask (taskBy kind addr word last) n k (stands m ws b) ≡ apAccess (apWriting TAR) TAR addr (inPhase TAR-SENT (m₅ m) k) (stands (m₅ m) ws b))
           (λ m₀ m₁ m₂ m₃ m₄ m₅ m₆ m₇ m₈ m₉ m₁₀ m₁₁ e. simp (eq-eqb _ _ e)) m (f .1) e
 
-  pub task-unknown : (getD (tasked kind addr word n last m) 10 0 ≡ 1 → ⊥) → Accessed 6 1 0 CSW-DEFAULT t (tasked kind addr word n last m) u v
+  pub task-unknown : (getD (tasked kind addr word n last m) 10 0 ≡ 1 → ⊥) → Accessed CSW-SENT (apWriting CSW) CSW CSW-DEFAULT t (tasked kind addr word n last m) u v
       → Begun (ensuringTask (taskBy kind addr word last) n) t m u v
   task-unknown e a ws f = record { tree = λ b k. here b k ∙ there .tree b k; fits = there .fits; counted = there .counted }
     where
       m₅ : List ℕ → List ℕ
       m₅ m = tasked kind addr word n last m
 
-      there : Begins (λ k. apAccess 1 0 CSW-DEFAULT (inPhase 6 (m₅ m) k)) (m₅ m) ws u v
+      there : Begins (λ k. apAccess (apWriting CSW) CSW CSW-DEFAULT (inPhase CSW-SENT (m₅ m) k)) (m₅ m) ws u v
       there = a (omega arith) (f .0, tasked-sized kind addr word n last m (f .1)) ws
 
-      here : (b : List ℕ) (k : Then) → ensuringTask (taskBy kind addr word last) n k (stands m ws b) ≡ apAccess 1 0 CSW-DEFAULT (inPhase 6 (m₅ m) k) (stands (m₅ m) ws b)
+      here : (b : List ℕ) (k : Then) → ensuringTask (taskBy kind addr word last) n k (stands m ws b) ≡ apAccess (apWriting CSW) CSW CSW-DEFAULT (inPhase CSW-SENT (m₅ m) k) (stands (m₅ m) ws b)
       here b k = by-words (λ m. (getD (m₅ m) 10 0 ≡ 1 → ⊥)
-          → ensuringTask (taskBy kind addr word last) n k (stands m ws b) ≡ apAccess 1 0 CSW-DEFAULT (inPhase 6 (m₅ m) k) (stands (m₅ m) ws b))
+          → ensuringTask (taskBy kind addr word last) n k (stands m ws b) ≡ apAccess (apWriting CSW) CSW CSW-DEFAULT (inPhase CSW-SENT (m₅ m) k) (stands (m₅ m) ws b))
           (λ m₀ m₁ m₂ m₃ m₄ m₅ m₆ m₇ m₈ m₉ m₁₀ m₁₁ e. simp (ne-eqb _ _ e)) m (f .1) e
 
 -- the same tree
@@ -379,7 +378,7 @@ pub goes-as : {w v : List ℕ → Then → Wire} {r : Went} {t m ws : List ℕ} 
 goes-as e g = record { tree = λ b k. e b k ∙ g .tree b k; fits = g .fits; counted = g .counted }
 
 -- the word v of a run of reads, in the row rs with it
-pub value-pulls : (m ws : List ℕ) {rs : List ℕ} (v more : ℕ) → getD m 0 0 ≡ 3 → rs ≡ set ws (getD m 2 0 - getD m 1 0) v → more ≡ getD m 1 0 - 1
+pub value-pulls : (m ws : List ℕ) {rs : List ℕ} (v more : ℕ) → getD m 0 0 ≡ PULL → rs ≡ set ws (getD m 2 0 - getD m 1 0) v → more ≡ getD m 1 0 - 1
     → (b : List ℕ) (k : Then) → valueTree m v ws b k ≡ pull (getD m 2 0) more k (stands m rs b)
 value-pulls m ws {rs} v more p r e b k =
     ap (λ (n : ℕ). phaseAfter (phaseOf n) (taskOf m) (getD m 1 0) k (stands m ws b) (Value v)) p
@@ -424,7 +423,7 @@ ended-fails m ws e b k =
 abbrev pub Ends : ℕ → ℕ → List ℕ → List ℕ → List ℕ → Type 0
 Ends v r m ws rs = (b : List ℕ) (k : Then) → endedTree m (Value v) ws b k ≡ k (stands m rs b) (Value r)
 
-tar-last : (n : ℕ) (none : Bool) → endsAtTar n none ≡ true → (none ≡ true) × (n ≡ 7)
+tar-last : (n : ℕ) (none : Bool) → endsAtTar n none ≡ true → (none ≡ true) × (n ≡ TAR-SENT)
 tar-last n true h = (refl, eqb-true n 7 h)
 tar-last n false h = absurd (true≢false (sym h))
 
@@ -463,7 +462,7 @@ ends-unit m ws v z l h = by-tar (endsAtTar (getD m 0 0) (empty m)) refl h
         one n z l g = omega arith
 
 -- the phases after which one follows
-pub more-data : (m : List ℕ) → getD m 0 0 ≡ 7 → following m ≡ true → empty m ≡ false
+pub more-data : (m : List ℕ) → getD m 0 0 ≡ TAR-SENT → following m ≡ true → empty m ≡ false
 more-data m e = by-none (empty m)
   where
     by-none : (x : Bool) → followsAt (getD m 0 0) x ≡ true → x ≡ false
@@ -500,15 +499,15 @@ good-step t m ws v e h b k = by-mode (transferOf t .mode) (sym e ∙ h)
     by-mode W.raw q = refl
 
 -- the next word of a run
-pub runs-reads : (t m ws : List ℕ) {u w rs : List ℕ} (v i : ℕ) → getD m 0 0 ≡ 3 → 1 < getD m 1 0 → i ≡ getD m 2 0 - getD m 1 0 → rs ≡ set ws i v
-    → (u ≡ begun 15 0 t) × (w ≡ set (set m 1 (getD m 1 0 - 1)) 0 3) → Fits t m → Goes (endedTree m (Value v) ws) Moving u w rs
+pub runs-reads : (t m ws : List ℕ) {u w rs : List ℕ} (v i : ℕ) → getD m 0 0 ≡ PULL → 1 < getD m 1 0 → i ≡ getD m 2 0 - getD m 1 0 → rs ≡ set ws i v
+    → (u ≡ begun (apReading DRW) 0 t) × (w ≡ set (set m 1 (getD m 1 0 - 1)) 0 PULL) → Fits t m → Goes (endedTree m (Value v) ws) Moving u w rs
 runs-reads t m ws {rs = rs} v i p l at r g f =
     goes-of (λ b k. ended-value m ws v (omega (arith, p)) b k
     ∙ value-pulls m ws v (getD m 1 0 - 1) p (r ∙ ap (λ (j : ℕ). set ws j v) at) refl b k)
     (pull-goes t m (getD m 1 0 - 1) (λ z. absurd (omega (arith, z, l))) g rs f)
 
-pub runs-writes : (t m ws : List ℕ) {u w : List ℕ} (v i x : ℕ) → getD m 0 0 ≡ 4 → 1 < getD m 1 0 → i ≡ getD m 2 0 - (getD m 1 0 - 2) → x ≡ getD ws i 0
-    → (u ≡ begun 13 x t) × (w ≡ set (set m 1 (getD m 1 0 - 1)) 0 4) → Fits t m → Goes (endedTree m (Value v) ws) Moving u w ws
+pub runs-writes : (t m ws : List ℕ) {u w : List ℕ} (v i x : ℕ) → getD m 0 0 ≡ PUSH → 1 < getD m 1 0 → i ≡ getD m 2 0 - (getD m 1 0 - 2) → x ≡ getD ws i 0
+    → (u ≡ begun (apWriting DRW) x t) × (w ≡ set (set m 1 (getD m 1 0 - 1)) 0 PUSH) → Fits t m → Goes (endedTree m (Value v) ws) Moving u w ws
 runs-writes t m ws v i x p l at r g f =
     goes-of (λ b k. ended-value m ws v (omega (arith, p)) b k
     ∙ ap (λ (n : ℕ). phaseAfter (phaseOf n) (taskOf m) (getD m 1 0) k (stands m ws b) (Value v)) p)
