@@ -12,6 +12,8 @@ use session_rules::SessionCall;
 use target::Delivered;
 use target::Target;
 use test_soak::Asked;
+use test_soak::CONNECT;
+use test_soak::WRITE;
 use wire::Answer;
 use wire::Call;
 use wire::Remembered;
@@ -19,32 +21,6 @@ use wire_numbers::CallEnding;
 use wire_numbers::TransportCall;
 
 const LISTS: u32 = 100000;
-
-// The kinds of calls.
-const READ: u8 = 0;
-
-const WRITE: u8 = 1;
-
-const CONNECT: u8 = 2;
-
-const OTHER: u8 = 3;
-
-// Where things are counted, in the order in which they are printed. A call is counted at ENDED, four places a result.
-const LISTED: usize = 0;
-
-const CALLED: usize = 1;
-
-const MADE: usize = 2;
-
-const LOST: usize = 3;
-
-const ENDED: usize = 4;
-
-const HALF: usize = 56;
-
-const WIDTHS: usize = 58;
-
-const FAILED: usize = 61;
 
 // All but the session: the target; the last answer; a line that answers WAIT to the next `waits` transport calls, and else fails
 // at `faults` of 2^32; the generator's number; the transport calls of a list and the losses among them. By the trace alone: whether
@@ -251,45 +227,6 @@ fn moved(
     stepped(s, a.len, answer, buf)
 }
 
-fn kind_of(number: u32) -> u8 {
-    match number {
-        9 | 13 => READ,
-        10 | 14 => WRITE,
-        3 => CONNECT,
-        _ => OTHER,
-    }
-}
-
-// Counts n more at a place.
-fn count(seen: &mut [u64; 62], place: usize, n: u64) {
-    if place < 62 {
-        seen[place] = std::num::wrapping_add_u64(seen[place], n);
-    }
-}
-
-// Whether a read that failed has given some bytes, or a write that failed has left some new. `given` is the buffer as the call
-// found it.
-fn is_half_done(
-    kind: u8,
-    ok: bool,
-    before: &[u8; 1152],
-    after: &[u8; 1152],
-    given: &[u8; 32],
-    buf: &[u8; 32],
-) -> bool {
-    !ok
-        & (((kind == READ) & !check::same(given, buf))
-            | ((kind == WRITE) & !check::same(before, after)))
-}
-
-// The call is counted.
-fn counted(kind: u8, result: u8, half: bool, good: bool, seen: &mut [u64; 62]) {
-    count(seen, CALLED, 1);
-    count(seen, ENDED + 4 * (result as usize) + (kind as usize), 1);
-    count(seen, HALF + (kind as usize), half as u64);
-    count(seen, FAILED, !good as u64);
-}
-
 // The checks after a call. Whether the session has to be open now.
 fn checked(
     w: World,
@@ -304,7 +241,7 @@ fn checked(
 ) -> bool {
     let e = ending_of(x);
     let ok = e.number == 0;
-    let kind = kind_of(a.number);
+    let kind = test_soak::kind_of(a.number);
     let t = w.target;
     let from = std::num::wrapping_sub_u32(a.addr, t.base);
     let due = test_soak::opens(was, kind == CONNECT, e.number, w.lost);
@@ -312,10 +249,10 @@ fn checked(
     let kept = (CONNECT <= kind)
         | test_soak::memory_kept(kind == WRITE, ok, from, a.len, before, after, &bytes);
     let good = kept & (x.open == due) & (!due | test_soak::agrees(x.remembered, t));
-    counted(
+    test_soak::counted(
         kind,
         e.number,
-        is_half_done(kind, ok, before, after, given, buf),
+        test_soak::is_half_done(kind, ok, before, after, given, buf),
         good,
         seen,
     );
@@ -348,23 +285,6 @@ fn begun(w: World, random: u32) -> World {
     v
 }
 
-// Lists are counted by the width: 10, 11 to 31, and 32.
-fn width_place(width: u32) -> usize {
-    match width {
-        10 => WIDTHS,
-        32 => WIDTHS + 2,
-        _ => WIDTHS + 1,
-    }
-}
-
-// The list is counted.
-fn listed(w: World, seen: &mut [u64; 62]) {
-    count(seen, LISTED, 1);
-    count(seen, width_place(w.target.width), 1);
-    count(seen, MADE, w.made);
-    count(seen, LOST, w.losses);
-}
-
 // A list of at most 11 calls on a fresh session, each with its checks. The first turn of a call is its start, the others steps.
 // The generator's number after it.
 fn list_of(random: u32, seen: &mut [u64; 62], mem: &mut [u8; 1152]) -> u32 {
@@ -389,42 +309,8 @@ fn list_of(random: u32, seen: &mut [u64; 62], mem: &mut [u8; 1152]) -> u32 {
         }
         open = checked(w, what_said(now), a, open, &before, mem, &given, &buf, seen);
     }
-    listed(w, seen);
+    test_soak::listed(w.target.width, w.made, w.losses, seen);
     w.random
-}
-
-// A number for #, and any other byte as it is. How many numbers were shown.
-fn show(byte: &[u8], n: u64) -> usize {
-    if test_soak::at(byte, 0) == b'#' {
-        io::print_decimal(1, n);
-        return 1;
-    }
-    io::write_all(1, byte);
-    0
-}
-
-fn number(seen: &[u64; 62], k: usize) -> u64 {
-    if k < 62 {
-        return seen[k];
-    }
-    0
-}
-
-// The text, with the numbers.
-fn print(text: &[u8], seen: &[u64; 62]) {
-    let mut i: usize = 0;
-    let mut k: usize = 0;
-    while i < text.len() {
-        k = std::num::wrapping_add_usize(k, show(&text[i..i + 1], number(seen, k)));
-        i += 1;
-    }
-}
-
-// Standard input has the text.
-fn report(seen: &[u64; 62]) {
-    let mut text = [0u8; 1024];
-    let n = io::read_full(0, &mut text);
-    print(&text[..n], seen);
 }
 
 fn main() {
@@ -436,5 +322,5 @@ fn main() {
         left -= 1;
         x = list_of(x, &mut seen, &mut mem);
     }
-    report(&seen);
+    test_soak::report(&seen);
 }

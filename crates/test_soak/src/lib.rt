@@ -1,5 +1,6 @@
 // The parts of a soak of the session that need no session. What it draws from a generator: targets, their lines, and calls; whatever is
-// drawn has a number of its own after the one that is given. And what it checks after a call, the four clauses of demand 3.
+// drawn has a number of its own after the one that is given. What it checks after a call, the four clauses of demand 3. What it counts,
+// and how it prints the counts.
 use target::Target;
 use wire::Remembered;
 
@@ -222,7 +223,7 @@ fn word_bytes(w: u32) -> [u8; 32] {
     b
 }
 
-pub fn at(bytes: &[u8], i: u32) -> u8 {
+fn at(bytes: &[u8], i: u32) -> u8 {
     if (i as usize) < bytes.len() {
         return bytes[i as usize];
     }
@@ -260,4 +261,120 @@ pub fn memory_kept(
         i += 1;
     }
     good
+}
+
+// The kinds of calls.
+const READ: u8 = 0;
+
+pub const WRITE: u8 = 1;
+
+pub const CONNECT: u8 = 2;
+
+const OTHER: u8 = 3;
+
+// Where things are counted, in the order in which they are printed. A call is counted at ENDED, four places a result.
+const LISTED: usize = 0;
+
+const CALLED: usize = 1;
+
+const MADE: usize = 2;
+
+const LOST: usize = 3;
+
+const ENDED: usize = 4;
+
+const HALF: usize = 56;
+
+const WIDTHS: usize = 58;
+
+const FAILED: usize = 61;
+
+pub fn kind_of(number: u32) -> u8 {
+    match number {
+        9 | 13 => READ,
+        10 | 14 => WRITE,
+        3 => CONNECT,
+        _ => OTHER,
+    }
+}
+
+// Counts n more at a place.
+fn count(seen: &mut [u64; 62], place: usize, n: u64) {
+    if place < 62 {
+        seen[place] = std::num::wrapping_add_u64(seen[place], n);
+    }
+}
+
+// Whether a read that failed has given some bytes, or a write that failed has left some new. `given` is the buffer as the call
+// found it.
+pub fn is_half_done(
+    kind: u8,
+    ok: bool,
+    before: &[u8; 1152],
+    after: &[u8; 1152],
+    given: &[u8; 32],
+    buf: &[u8; 32],
+) -> bool {
+    !ok
+        & (((kind == READ) & !check::same(given, buf))
+            | ((kind == WRITE) & !check::same(before, after)))
+}
+
+// The call is counted.
+pub fn counted(kind: u8, result: u8, half: bool, good: bool, seen: &mut [u64; 62]) {
+    count(seen, CALLED, 1);
+    count(seen, ENDED + 4 * (result as usize) + (kind as usize), 1);
+    count(seen, HALF + (kind as usize), half as u64);
+    count(seen, FAILED, !good as u64);
+}
+
+// Lists are counted by the width: 10, 11 to 31, and 32.
+fn width_place(width: u32) -> usize {
+    match width {
+        10 => WIDTHS,
+        32 => WIDTHS + 2,
+        _ => WIDTHS + 1,
+    }
+}
+
+// The list is counted, with its transport calls and the losses among them.
+pub fn listed(width: u32, made: u64, losses: u64, seen: &mut [u64; 62]) {
+    count(seen, LISTED, 1);
+    count(seen, width_place(width), 1);
+    count(seen, MADE, made);
+    count(seen, LOST, losses);
+}
+
+// A number for #, and any other byte as it is. How many numbers were shown.
+fn show(byte: &[u8], n: u64) -> usize {
+    if at(byte, 0) == b'#' {
+        io::print_decimal(1, n);
+        return 1;
+    }
+    io::write_all(1, byte);
+    0
+}
+
+fn number(seen: &[u64; 62], k: usize) -> u64 {
+    if k < 62 {
+        return seen[k];
+    }
+    0
+}
+
+// The text, with the numbers.
+fn print(text: &[u8], seen: &[u64; 62]) {
+    let mut i: usize = 0;
+    let mut k: usize = 0;
+    while i < text.len() {
+        k = std::num::wrapping_add_usize(k, show(&text[i..i + 1], number(seen, k)));
+        i += 1;
+    }
+}
+
+// Standard input has the text.
+pub fn report(seen: &[u64; 62]) {
+    let mut text = [0u8; 1024];
+    let n = io::read_full(0, &mut text);
+    print(&text[..n], seen);
 }
