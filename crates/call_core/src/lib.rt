@@ -13,7 +13,8 @@ ghost use Rattle.call.specs.Job.{ends, attempt, orFail};
 ghost use Rattle.call.specs.Laws.Asks.{asks, keepSome, nextJob, opThen};
 ghost use Rattle.call_core.specs.Cortex as Cortex;
 ghost use Rattle.call_core.specs.Function.{coreJob, ROM-TABLE-PTRS, joined, lookFrom, clobbered, writeRowReg, finishFunction, afterWait};
-ghost use Rattle.call_core.specs.Laws.After.{bitOf, waiting, polled, accessOn, accessAfter, entryOf, tabled, matching, findOn, ending, looking, looked, setting, saving, beginning, restoring, resulting, runOn, overOn, thenOn, goesOn, stopsAt, phaseAfter, accessOf, findOf, runOf, planOf, thenOf, coreAtOf, coreAfter};
+ghost use Rattle.call_core.specs.Laws.After.{bitOf, waiting, polled, accessOn, accessAfter, entryOf, tabled, matching, findOn, ending, looking, looked, setting, saving, beginning, restoring, resulting};
+ghost use Rattle.call_core.specs.Laws.After.{runOn, overOn, thenOn, goesOn, stopsAt, phaseAfter, accessOf, findOf, runOf, planOf, thenOf, coreAtOf, coreAfter};
 ghost use Rattle.call_core.specs.declared.CoreAt.the-variants.{Access};
 ghost use Rattle.call_core.specs.declared.Wait.the-variants.{Halt};
 use call::Asks;
@@ -709,7 +710,8 @@ fn save_on(change: Change, left: u32, plan: Plan) -> Asks
 
 // A register of the frame is written with the row's word at `place`.
 fn register_set(i: u32, then: Then, place: u32) -> Asks
-    ensures { λ r. ⌜ attempt (writeRowReg (getD clobbered i 0) place) (orFail (thenOn then)) ≡ asks (r .change) (r .next) (coreAfter (r .at)) ⌝ }
+    ensures { λ r. ⌜ attempt (writeRowReg (getD clobbered i 0) place) (orFail (thenOn then))
+        ≡ asks (r .change) (r .next) (coreAfter (r .at)) ⌝ }
 {
     let at = AccessAt::Data(register_at(i));
     doing(

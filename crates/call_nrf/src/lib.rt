@@ -9,7 +9,8 @@ ghost use Rattle.wire_memap.specs.Words.{tarRun};
 ghost use Rattle.call.specs.Laws.Asks.{asks, opThen};
 ghost use Rattle.call.specs.Job.{ends};
 ghost use Rattle.call_nrf.specs.Nrf.{nrfJob, nrf52ApprotectStatus, nrf54ApprotectStatus, readStatus, softReset, pollErased, eraseAll, nrf52ErasePage, programmable};
-ghost use Rattle.call_nrf.specs.Laws.After.{nrfAfter, phaseAfter, nrfAtOf, chipOf, stepOf, flashOf, goesOn, onPort, leaves, afterErased, releasing, released, config, ready, closing, writes, finishing, programming, flashing, waiting, afterReady, flashAfter, enabling};
+ghost use Rattle.call_nrf.specs.Laws.After.{nrfAfter, phaseAfter, nrfAtOf, chipOf, stepOf, flashOf, goesOn, onPort, leaves, afterErased, releasing, released};
+ghost use Rattle.call_nrf.specs.Laws.After.{config, ready, closing, writes, finishing, programming, flashing, waiting, afterReady, flashAfter, enabling};
 ghost use Rattle.call_nrf.specs.declared.NrfAt.the-variants as P;
 
 mod nrf52;

@@ -323,7 +323,8 @@ fn lend(
     buf: &mut [u8],
     out: &mut [u8],
 ) -> usize
-    requires { ⌜ Zeros b (now a) (now words) (now buf) × (length (now answers) ≤ 9361) × (length (now words) < 65536) × (length (now buf) < 65536) ⌝ }
+    requires { ⌜ Zeros b (now a) (now words) (now buf) × (length (now answers) ≤ 9361)
+        × (length (now words) < 65536) × (length (now buf) < 65536) ⌝ }
     ensures { λ r. ⌜ Puts (now (out .entry)) 0
         (performed c b (wordsOf b (now (a .entry))) (bytesOf b (now (a .entry))) (now (answers .entry)))
         (now (out .exit)) r × (r ≤ 1114112) ⌝ }
@@ -386,7 +387,8 @@ fn put_script(input: &[u8], out: &mut [u8]) -> usize
 
 // The whole output of a script, as far as `out` reaches; answers its length.
 pub fn dapscript(input: &[u8], out: &mut [u8]) -> usize
-    ensures { λ r. ⌜ (r ≡ length (outputOf (now (input .entry)))) × (now (out .exit) ≡ sets (now (out .entry)) 0 (outputOf (now (input .entry))))
+    ensures { λ r. ⌜ (r ≡ length (outputOf (now (input .entry))))
+        × (now (out .exit) ≡ sets (now (out .entry)) 0 (outputOf (now (input .entry))))
         × (r ≤ 1114112) ⌝ }
 {
     if well_formed(input) {

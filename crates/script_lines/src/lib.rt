@@ -153,7 +153,8 @@ fn put_bits(out: &mut [u8], at: usize, letter: u8, bits: u8, bytes: &[u8]) -> us
 // A call that hands bytes over.
 fn put_handed(out: &mut [u8], at: usize, c: Call) -> usize
     requires { ⌜ at ≤ 2 ^ 59 ⌝ }
-    ensures { λ r. ⌜ Puts (now (out .entry)) at (bitsText (numbersOf c .kind) (numbersOf c .bits) (handed c)) (now (out .exit)) r × (r ≤ at + 45) ⌝ }
+    ensures { λ r. ⌜ Puts (now (out .entry)) at (bitsText (numbersOf c .kind) (numbersOf c .bits) (handed c)) (now (out .exit)) r
+        × (r ≤ at + 45) ⌝ }
 {
     let n = wire_numbers::numbers_of(c);
     let bytes = wire_numbers::bytes_of(c);

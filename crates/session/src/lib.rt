@@ -137,7 +137,8 @@ fn refused(s: Session, x: Refusal) -> SessionAnswer
 
 // The start of a call that is not refused. It runs over no words of the caller.
 fn begun(s: Session, c: SessionCall, buf: &mut [u8]) -> SessionAnswer
-    ensures { λ r. ⌜ Answers (kindOf c) false (s .frame) (sessionTree (standing s) c (now (buf .entry))) (r .session) (r .reply) (now (buf .exit)) ⌝ }
+    ensures { λ r. ⌜ Answers (kindOf c) false (s .frame) (sessionTree (standing s) c (now (buf .entry)))
+        (r .session) (r .reply) (now (buf .exit)) ⌝ }
 {
     let frame = s.frame;
     let e = session_rules::engine_call(c);
@@ -162,7 +163,9 @@ fn step_row(state: State, a: Answer, row: &mut [u32; 64], buf: &mut [u8]) -> Ste
 
 // One step of the call under way.
 fn moved(s: Session, kind: Kind, lost: bool, a: Answer, buf: &mut [u8]) -> SessionAnswer
-    ensures { λ r. ⌜ Answers kind (lost || lostBy (stateTree (s .state) (s .row) (now (buf .entry))) a) (s .frame) (follow (stateTree (s .state) (s .row) (now (buf .entry))) a) (r .session) (r .reply) (now (buf .exit)) ⌝ }
+    ensures { λ r. ⌜ Answers kind (lost || lostBy (stateTree (s .state) (s .row) (now (buf .entry))) a) (s .frame)
+        (follow (stateTree (s .state) (s .row) (now (buf .entry))) a)
+        (r .session) (r .reply) (now (buf .exit)) ⌝ }
 {
     let state = s.state;
     let frame = s.frame;

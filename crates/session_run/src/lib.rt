@@ -123,7 +123,12 @@ pub fn run_call(
     mem: &mut [u8],
     buf: &mut [u8],
 ) -> CallRan
-    ensures { λ r. ⌜ CallRuns (made (moment s t (now (mem .entry))) (item c budget (now (buf .entry))) (actsOf (drop from (now (acts .entry))))) r (now (mem .exit)) (now (buf .exit)) × (actsOf (drop (r .at) (now (acts .entry))) ≡ drop (length (made (moment s t (now (mem .entry))) (item c budget (now (buf .entry))) (actsOf (drop from (now (acts .entry)))) .answers)) (actsOf (drop from (now (acts .entry))))) ⌝ }
+    ensures { λ r. ⌜ CallRuns
+        (made (moment s t (now (mem .entry))) (item c budget (now (buf .entry))) (actsOf (drop from (now (acts .entry)))))
+        r (now (mem .exit)) (now (buf .exit))
+        × (actsOf (drop (r .at) (now (acts .entry)))
+        ≡ drop (length (made (moment s t (now (mem .entry))) (item c budget (now (buf .entry))) (actsOf (drop from (now (acts .entry)))) .answers))
+        (actsOf (drop from (now (acts .entry))))) ⌝ }
 {
     let mut last = Turned {
         step: session::session_start(s, c, buf),
@@ -181,7 +186,9 @@ pub fn run_list(
     bytes: &mut [u8],
     results: &mut [u64],
 ) -> ListRan
-    ensures { λ r. ⌜ ListRuns (moment s t (now (mem .entry))) (history (moment s t (now (mem .entry))) (itemsOf (now (items .entry)) (now (bytes .entry))) (actsOf (now (acts .entry)))) r (now (mem .exit)) (now (bytes .entry)) (now (bytes .exit)) (now (results .entry)) (now (results .exit)) ⌝ }
+    ensures { λ r. ⌜ ListRuns (moment s t (now (mem .entry)))
+        (history (moment s t (now (mem .entry))) (itemsOf (now (items .entry)) (now (bytes .entry))) (actsOf (now (acts .entry))))
+        r (now (mem .exit)) (now (bytes .entry)) (now (bytes .exit)) (now (results .entry)) (now (results .exit)) ⌝ }
 {
     let count = items.len() / ITEM;
     let mut last = CallRan {

@@ -1,7 +1,7 @@
 -- The numbers left go down.
 use borrow.Author.Needs.{needs}
-use Rattle.test_session_soak.proofs.nth.Statement.{statement}
-use Rattle.test_session_soak.proofs.nth.Tie as tie
+use Rattle.test_soak.proofs.nth.Statement.{statement}
+use Rattle.test_soak.proofs.nth.Tie as tie
 
 abbrev Inv-loop : tie.InvT-loop
 Inv-loop x k y₀ left₀ y left = Unit {0}

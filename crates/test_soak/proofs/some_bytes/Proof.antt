@@ -1,8 +1,8 @@
 -- The place goes up to the last one.
 use borrow.Author.Needs.{needs}
 use Prim.Native.Nat.{_≤_, _-_}
-use Rattle.test_session_soak.proofs.some_bytes.Statement.{statement}
-use Rattle.test_session_soak.proofs.some_bytes.Tie as tie
+use Rattle.test_soak.proofs.some_bytes.Statement.{statement}
+use Rattle.test_soak.proofs.some_bytes.Tie as tie
 
 abbrev Inv-loop : tie.InvT-loop
 Inv-loop x b₀ y₀ i₀ b y i = i ≤ 32

@@ -2,8 +2,8 @@
 use borrow.Author.Needs.{needs}
 use Prim.Native.Nat.{_≤_, _-_}
 use lib.ListN.{length}
-use Rattle.test_session_soak.proofs.print.Statement.{statement}
-use Rattle.test_session_soak.proofs.print.Tie as tie
+use Rattle.test_soak.proofs.print.Statement.{statement}
+use Rattle.test_soak.proofs.print.Tie as tie
 
 abbrev Inv-loop : tie.InvT-loop
 Inv-loop text seen i₀ k₀ i k = i ≤ length text
