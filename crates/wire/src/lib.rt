@@ -408,8 +408,8 @@ pub fn transfer_step(t: &mut [u32; 7], a: Answer) -> Went
 {
     let mode = t[MODE];
     match mode {
-        0 => tried(t, a),
-        1 => Went::Ended(Outcome::Failed(error_of(t))),
+        TRYING => tried(t, a),
+        ABORTING => Went::Ended(Outcome::Failed(error_of(t))),
         _ => Went::Ended(raw_outcome(a)),
     }
 }
@@ -438,18 +438,18 @@ pub fn due(t: &[u32; 7]) -> Call
     let other = t[OTHER];
     let word = t[WORD];
     match kind {
-        0 => Call::Transfer {
+        TRANSFER => Call::Transfer {
             request: (byte % 256) as u8,
             word: word,
         },
-        1 => Call::Connect,
-        2 => Call::Sequence(pattern_at(byte)),
-        3 => Call::Pins {
+        CONNECT => Call::Connect,
+        SEQUENCE => Call::Sequence(pattern_at(byte)),
+        PINS => Call::Pins {
             output: (byte % 256) as u8,
             select: (other % 256) as u8,
             wait_us: word,
         },
-        4 => Call::WriteBits {
+        WRITE_BITS => Call::WriteBits {
             bits: (byte % 256) as u8,
             word: word,
         },

@@ -8,7 +8,8 @@ ghost use mathlib.Core.Path.{_≡_};
 ghost use Prim.Native.Nat.{_-_, _<_, _≤_};
 ghost use lib.ListN.{set, getD};
 ghost use Rattle.wire.specs.Laws.Flight.{begun};
-ghost use Rattle.wire_memap.specs.Ports.{selectOf, a32};
+ghost use Rattle.wire_memap.specs.Ports as Ports;
+ghost use Rattle.wire_memap.specs.Ports.{selectOf, a32, dpWriting};
 ghost use Rattle.wire_memap.specs.Laws.Doing.{rememberedOf, kindOf, OpSized, Remembers};
 ghost use Rattle.wire_memap.specs.Words.{pull, push};
 ghost use Rattle.wire_memap.specs.declared.Went.the-variants.{Moving};
@@ -167,7 +168,8 @@ fn direct(t: &mut [u32; 7], m: &mut [u32; 12], phase: u32, request: u32, word: u
 
 // SELECT goes before the access's own transfer.
 fn selecting(t: &mut [u32; 7], m: &mut [u32; 12], phase: u32, request: u32, word: u32, select: u32)
-    ensures { λ _. ⌜ (now (t .exit) ≡ begun 8 select (now (t .entry))) × (now (m .exit) ≡ waiting phase request word select (now (m .entry))) ⌝ }
+    ensures { λ _. ⌜ (now (t .exit) ≡ begun (dpWriting Ports.SELECT) select (now (t .entry)))
+        × (now (m .exit) ≡ waiting phase request word select (now (m .entry))) ⌝ }
 {
     m[PHASE] = phase % 16 + SELECTING;
     m[REQUEST] = request;
@@ -239,12 +241,12 @@ fn data_on(t: &mut [u32; 7], m: &mut [u32; 12], row: &[u32])
 {
     let kind = m[TASK];
     match kind {
-        0 => access(t, m, POSTED, DRW_READ, DRW, 0),
-        1 => {
+        READ_WORD => access(t, m, POSTED, DRW_READ, DRW, 0),
+        WRITE_WORD => {
             let word = m[DATA];
             access(t, m, SENT, DRW_WRITE, DRW, word)
         }
-        2 => access(t, m, FIRST, DRW_READ, DRW, 0),
+        READ_WORDS => access(t, m, FIRST, DRW_READ, DRW, 0),
         _ => {
             let word = word_at(row, minus(m[LAST], minus(m[LEFT], 1)));
             access(t, m, PUSH, DRW_WRITE, DRW, word)
@@ -301,15 +303,15 @@ fn move_on(t: &mut [u32; 7], m: &mut [u32; 12], v: u32, row: &mut [u32])
     }
     let n = m[LEFT];
     match phase {
-        3 => {
+        PULL => {
             place_word(row, minus(m[LAST], n), v);
             pull_on(t, m, minus(n, 1))
         }
-        4 => push_on(t, m, minus(n, 1), row),
-        5 => direct(t, m, ONLY, RDBUFF_READ, 0),
-        6 => tar_on(t, m),
-        7 => data_on(t, m, row),
-        8 => direct(t, m, UNIT, RDBUFF_READ, 0),
+        PUSH => push_on(t, m, minus(n, 1), row),
+        POSTED => direct(t, m, ONLY, RDBUFF_READ, 0),
+        CSW_SENT => tar_on(t, m),
+        TAR_SENT => data_on(t, m, row),
+        SENT => direct(t, m, UNIT, RDBUFF_READ, 0),
         _ => pull_on(t, m, minus(n, 1)),
     }
 }
