@@ -15,7 +15,7 @@ extern "C" {
         buf: *mut u8, bytes: usize,
     ) -> bool;
     fn bench_step(
-        t: &mut [u32; 7], m: &mut [u32; 12], c: &mut [u32; 9], code: u32, value: u32, row: &mut [u32; 64], words: *mut u32, n: usize,
+        t: &mut [u32; 7], m: &mut [u32; 12], c: &mut [u32; 9], answer: u64, row: &mut [u32; 64], words: *mut u32, n: usize,
         buf: *mut u8, bytes: usize,
     ) -> bool;
 }
@@ -92,7 +92,7 @@ impl DapTransport for Instantly<'_> {
 }
 
 /// One call on a new engine.
-fn on_rust(call: usize, answers: &[u64], buf: &mut [u8], log: &mut [u64]) -> usize {
+fn on_rust(call: usize, answers: &[u64], buf: &mut [u8], log: &mut [u64], _: &mut Words) -> usize {
     let mut engine = ArmDebug::new(Instantly { answers, log, made: 0 }, DapConfig);
     let ok = match call {
         0 => engine.read_mem(ADDRESS, buf).is_ok(),
@@ -107,35 +107,43 @@ fn on_rust(call: usize, answers: &[u64], buf: &mut [u8], log: &mut [u64]) -> usi
 }
 
 /// The port's run over the answers.
-fn on_run(call: usize, answers: &[u64], buf: &mut [u8], log: &mut [u64]) -> usize {
+fn on_run(call: usize, answers: &[u64], buf: &mut [u8], log: &mut [u64], _: &mut Words) -> usize {
     let (a, n, b, bytes, l, places) = (answers.as_ptr(), answers.len(), buf.as_mut_ptr(), buf.len(), log.as_mut_ptr(), log.len());
     // Safety: each pointer goes with its own length.
     unsafe { bench_run(call as u32, ADDRESS, BUDGET as u32, a, n, b, bytes, l, places) as usize }
 }
 
-/// The port's steps: the words of the call in flight say which transport call is due (word 2), its byte (3) and its word (4).
-fn on_step(call: usize, answers: &[u64], buf: &mut [u8], log: &mut [u64]) -> usize {
+/// What a caller of the port's steps keeps: the words of the call in flight (the transport call's, the operation's, the call's own),
+/// and a row for runs of words.
+struct Words {
+    t: [u32; 7],
+    m: [u32; 12],
+    c: [u32; 9],
+    row: [u32; 64],
+}
+
+/// The port's steps: the words of the transport call say which one is due (word 2), its byte (3) and its word (4).
+fn on_step(call: usize, answers: &[u64], buf: &mut [u8], log: &mut [u64], words: &mut Words) -> usize {
     let mut transport = Instantly { answers, log, made: 0 };
-    let (mut t, mut m, mut c, mut row) = ([0; 7], [0; 12], [0; 9], [0; 64]);
-    let (b, bytes, mut words) = (buf.as_mut_ptr(), buf.len(), [0; 1]);
-    let (w, n) = (words.as_mut_ptr(), words.len());
+    let Words { t, m, c, row } = words;
+    let (b, bytes, mut own) = (buf.as_mut_ptr(), buf.len(), [0; 1]);
+    let (w, n) = (own.as_mut_ptr(), own.len());
     // Safety: each pointer goes with its own length.
-    let mut due = unsafe { bench_start(&mut t, &mut m, &mut c, call as u32, ADDRESS, &mut row, w, n, b, bytes) };
+    let mut due = unsafe { bench_start(t, m, c, call as u32, ADDRESS, row, w, n, b, bytes) };
     while due {
-        let answer = match t[2] {
-            0 => transport.make(u64::from(t[3]) << 32 | u64::from(t[4])),
-            1 => transport.make(1 << 48),
-            2 => transport.make(2 << 48 | u64::from(t[3])),
-            _ => unreachable!(),
+        let call = match t[2] {
+            0 => u64::from(t[3]) << 32 | u64::from(t[4]),
+            1 => 1 << 48,
+            _ => 2 << 48 | u64::from(t[3]),
         };
-        let (code, value) = match answer {
-            Ok(v) => (0, v),
-            Err(DapError::SwdError(ack)) => (1, u32::from(ack)),
-            Err(DapError::NotSupported) => (2, 0),
-            Err(_) => (3, 0),
+        let answer = match transport.make(call) {
+            Ok(v) => u64::from(v),
+            Err(DapError::SwdError(ack)) => 1 << 32 | u64::from(ack),
+            Err(DapError::NotSupported) => 2 << 32,
+            Err(_) => 3 << 32,
         };
         // Safety: as above.
-        due = unsafe { bench_step(&mut t, &mut m, &mut c, code, value, &mut row, w, n, b, bytes) };
+        due = unsafe { bench_step(t, m, c, answer, row, w, n, b, bytes) };
     }
     transport.made
 }
@@ -169,16 +177,17 @@ fn main() {
     let mut bytes = vec![0u8; LENGTH];
     let mut log = vec![0u64; BUDGET];
     let buf = if call < 2 { &mut bytes[..] } else { &mut [] };
-    let made = on_rust(call, &answers, buf, &mut log);
+    let mut words = Words { t: [0; 7], m: [0; 12], c: [0; 9], row: [0; 64] };
+    let made = on_rust(call, &answers, buf, &mut log, &mut words);
     for port in [on_run, on_step] {
         let mut other = (vec![0u8; buf.len()], vec![0u64; BUDGET]);
-        assert_eq!(made, port(call, &answers, &mut other.0, &mut other.1), "as many calls");
+        assert_eq!(made, port(call, &answers, &mut other.0, &mut other.1, &mut words), "as many calls");
         assert!(log[..made] == other.1[..made], "the same calls");
         assert!(*buf == other.0, "the same bytes");
     }
     let start = Instant::now();
     for _ in 0..repeats {
-        std::hint::black_box(side(call, &answers, buf, &mut log));
+        std::hint::black_box(side(call, &answers, buf, &mut log, &mut words));
     }
     let nanos = start.elapsed().as_nanos() as f64 / (repeats.max(1) * made) as f64;
     println!("{made} {nanos:.2}");

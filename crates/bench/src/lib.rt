@@ -1,7 +1,7 @@
 // The engine for a benchmark in another language, in numbers and slices: six calls on a new engine, each run over answers that are
 // given, or started and stepped, the caller making the transport calls.
 ghost use mathlib.Core.Path.{_≡_};
-ghost use Rattle.wire_numbers.specs.Log.{answerAt};
+ghost use Rattle.wire_numbers.specs.Log.{answerOf};
 ghost use Rattle.engine.specs.Laws.Step.{TriesIn};
 ghost use Rattle.bench.specs.Played.{callNo, Counted};
 ghost use Rattle.bench.specs.Laws.Steps.{BegunIn, SteppedBy};
@@ -90,48 +90,39 @@ fn tried(
     t: &mut [u32; 7],
     m: &mut [u32; 12],
     c: &[u32; 9],
-    code: u32,
-    value: u32,
+    x: u64,
     row: &mut [u32; 64],
 ) -> bool
-    ensures { λ r. ⌜ TriesIn (answerAt code value) r (now (t .entry)) (now (m .entry)) (now (c .entry)) (now (row .entry))
+    ensures { λ r. ⌜ TriesIn (answerOf x) r (now (t .entry)) (now (m .entry)) (now (c .entry)) (now (row .entry))
         (now (t .exit)) (now (m .exit)) (now (row .exit)) ⌝ }
 {
-    if code == 0 {
-        if engine::runs_in(t, m, c, value, row) {
+    if x < 0x100000000 {
+        let v = x as u32;
+        if engine::runs_in(t, m, c, v, row) {
             return true;
         }
-        return engine::moves_in(t, m, c, value, row);
+        return engine::moves_in(t, m, c, v, row);
     }
     false
 }
 
-// One step with an answer, by 01's code and its value: whether a transport call is due.
+// One step with the answer that a number stands for, as the run takes them: whether a transport call is due.
 #[no_mangle]
 pub extern "C" fn bench_step(
     t: &mut [u32; 7],
     m: &mut [u32; 12],
     c: &mut [u32; 9],
-    code: u32,
-    value: u32,
+    x: u64,
     row: &mut [u32; 64],
     words: &mut [u32],
     buf: &mut [u8],
 ) -> bool
-    ensures { λ r. ⌜ SteppedBy code value r (now (t .entry)) (now (m .entry)) (now (c .entry)) (now (row .entry)) (now (words .entry))
+    ensures { λ r. ⌜ SteppedBy x r (now (t .entry)) (now (m .entry)) (now (c .entry)) (now (row .entry)) (now (words .entry))
         (now (buf .entry)) (now (t .exit)) (now (m .exit)) (now (c .exit)) (now (row .exit)) (now (words .exit)) (now (buf .exit)) ⌝ }
 {
-    if tried(t, m, c, code, value, row) {
+    if tried(t, m, c, x, row) {
         return true;
     }
-    engine::step_in(
-        t,
-        m,
-        c,
-        wire_numbers::answer_at(code, value),
-        row,
-        words,
-        buf,
-    );
+    engine::step_in(t, m, c, wire_numbers::answer_of(x), row, words, buf);
     engine::is_running(c)
 }

@@ -1,5 +1,5 @@
 -- A start and a step in words that are lent, with what they answer: whether a transport call is due. Serves the proofs only.
-use Prim.Native.Nat.{ℕ}
+use Prim.Native.Nat.{ℕ, _<_}
 use mathlib.Core.Bool.{Bool, true, false}
 use mathlib.Core.List.{List}
 use mathlib.Core.Path.{_≡_, refl, sym, subst, _∙_}
@@ -8,7 +8,8 @@ use Rattle.wire.specs.declared.Answer.the-variants.{Good}
 use Rattle.wire.specs.declared.Remembered.{Remembered}
 use Rattle.wire_memap.specs.Laws.Doing.{OpSized, Remembers}
 use Rattle.wire_memap.specs.Laws.Flight.{Fits}
-use Rattle.wire_numbers.specs.Log.{answerAt}
+use Rattle.wire_numbers.specs.Log.{answerOf}
+use Rattle.wire_numbers.specs.Laws.Log.{good-answer}
 use Rattle.call.specs.Change.{fresh}
 use Rattle.engine_calls.specs.Calls.{lent, callTree}
 use Rattle.engine_calls.specs.declared.EngineCall.{EngineCall}
@@ -31,33 +32,33 @@ begun-in x {y} t₀ m₀ c₀ row₀ words₀ b₀ {m₁} {t} {m} {c} {row} {wor
   due = d;
 }
 
--- a step with the answer of a code and a value
-pub record SteppedBy (code value : ℕ) (r : Bool) (t₀ m₀ c₀ row₀ words₀ b₀ t m c row words b : List ℕ) : Type 0 where
-  pub step : SteppedIn (answerAt code value) t₀ m₀ c₀ row₀ words₀ b₀ t m c row words b
+-- a step with the answer that the number x stands for
+pub record SteppedBy (x : ℕ) (r : Bool) (t₀ m₀ c₀ row₀ words₀ b₀ t m c row words b : List ℕ) : Type 0 where
+  pub step : SteppedIn (answerOf x) t₀ m₀ c₀ row₀ words₀ b₀ t m c row words b
   pub due : r ≡ running c
 
--- a value that is tried twice
-pub tried-once : (code value : ℕ) (t₀ m₀ c row₀ : List ℕ) {x r : Bool} {t m row : List ℕ} → code ≡ 0 → x ≡ r → TriesIn (Good value) x t₀ m₀ c row₀ t m row
-    → TriesIn (answerAt code value) r t₀ m₀ c row₀ t m row
-tried-once code value t₀ m₀ c row₀ {r = r} {t} {m} {row} z e g =
-    subst (λ (n : ℕ). TriesIn (answerAt n value) r t₀ m₀ c row₀ t m row) (sym z) (subst (λ (y : Bool). TriesIn (Good value) y t₀ m₀ c row₀ t m row) e g)
+-- a value that is tried once, and once more
+pub tried-once : (x : ℕ) (t₀ m₀ c row₀ : List ℕ) {p r : Bool} {t m row : List ℕ} → x < 0x100000000 → p ≡ r → TriesIn (Good x) p t₀ m₀ c row₀ t m row
+    → TriesIn (answerOf x) r t₀ m₀ c row₀ t m row
+tried-once x t₀ m₀ c row₀ {r = r} {t} {m} {row} l e g =
+    subst (λ (a : Answer). TriesIn a r t₀ m₀ c row₀ t m row) (good-answer x l) (subst (λ (y : Bool). TriesIn (Good x) y t₀ m₀ c row₀ t m row) e g)
 
-pub tried-again : (code value : ℕ) (t₀ m₀ c row₀ : List ℕ) {x r : Bool} {t₁ m₁ row₁ t m row : List ℕ} → code ≡ 0 → TriesIn (Good value) x t₀ m₀ c row₀ t₁ m₁ row₁ → x ≡ false
-    → TriesIn (Good value) r t₁ m₁ c row₁ t m row → TriesIn (answerAt code value) r t₀ m₀ c row₀ t m row
-tried-again code value t₀ m₀ c row₀ z g f h = tried-once code value t₀ m₀ c row₀ z refl (let q = g .stays f in record {
-  moved = λ e words b. stepped-from (Good value) t₀ m₀ c row₀ words b q (h .moved e words b);
+pub tried-again : (x : ℕ) (t₀ m₀ c row₀ : List ℕ) {p r : Bool} {t₁ m₁ row₁ t m row : List ℕ} → x < 0x100000000 → TriesIn (Good x) p t₀ m₀ c row₀ t₁ m₁ row₁ → p ≡ false
+    → TriesIn (Good x) r t₁ m₁ c row₁ t m row → TriesIn (answerOf x) r t₀ m₀ c row₀ t m row
+tried-again x t₀ m₀ c row₀ l g f h = tried-once x t₀ m₀ c row₀ l refl (let q = g .stays f in record {
+  moved = λ e words b. stepped-from (Good x) t₀ m₀ c row₀ words b q (h .moved e words b);
   goes = h .goes;
   stays = λ e. let p = h .stays e in (p .0 ∙ q .0, p .1 ∙ q .1, p .2 ∙ q .2);
 })
 
-pub stepped-at-once : (code value : ℕ) (t₀ m₀ c row₀ words b : List ℕ) {r : Bool} {t m row : List ℕ} → TriesIn (answerAt code value) r t₀ m₀ c row₀ t m row → r ≡ true
-    → SteppedBy code value true t₀ m₀ c row₀ words b t m c row words b
-stepped-at-once code value t₀ m₀ c row₀ words b g e = record { step = g .moved e words b; due = sym (g .goes e) }
+pub stepped-at-once : (x : ℕ) (t₀ m₀ c row₀ words b : List ℕ) {r : Bool} {t m row : List ℕ} → TriesIn (answerOf x) r t₀ m₀ c row₀ t m row → r ≡ true
+    → SteppedBy x true t₀ m₀ c row₀ words b t m c row words b
+stepped-at-once x t₀ m₀ c row₀ words b g e = record { step = g .moved e words b; due = sym (g .goes e) }
 
-pub stepped-by : (code value : ℕ) (t₀ m₀ c₀ row₀ words₀ b₀ : List ℕ) {r : Bool} {a : Answer} {t₁ m₁ row₁ t m c row words b : List ℕ}
-    → (t₁ ≡ t₀) × (m₁ ≡ m₀) × (row₁ ≡ row₀) → a ≡ answerAt code value → SteppedIn a t₁ m₁ c₀ row₁ words₀ b₀ t m c row words b → r ≡ running c
-    → SteppedBy code value r t₀ m₀ c₀ row₀ words₀ b₀ t m c row words b
-stepped-by code value t₀ m₀ c₀ row₀ words₀ b₀ {t = t} {m} {c} {row} {words} {b} e h g d = record {
+pub stepped-by : (x : ℕ) (t₀ m₀ c₀ row₀ words₀ b₀ : List ℕ) {r : Bool} {a : Answer} {t₁ m₁ row₁ t m c row words b : List ℕ}
+    → (t₁ ≡ t₀) × (m₁ ≡ m₀) × (row₁ ≡ row₀) → a ≡ answerOf x → SteppedIn a t₁ m₁ c₀ row₁ words₀ b₀ t m c row words b → r ≡ running c
+    → SteppedBy x r t₀ m₀ c₀ row₀ words₀ b₀ t m c row words b
+stepped-by x t₀ m₀ c₀ row₀ words₀ b₀ {t = t} {m} {c} {row} {words} {b} e h g d = record {
   step = subst (λ (a : Answer). SteppedIn a t₀ m₀ c₀ row₀ words₀ b₀ t m c row words b) h (stepped-from _ t₀ m₀ c₀ row₀ words₀ b₀ e g);
   due = d;
 }
