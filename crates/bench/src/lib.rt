@@ -86,13 +86,7 @@ pub extern "C" fn bench_start(
 }
 
 // A value is taken at once where an access follows it.
-fn tried(
-    t: &mut [u32; 7],
-    m: &mut [u32; 12],
-    c: &[u32; 9],
-    x: u64,
-    row: &mut [u32; 64],
-) -> bool
+fn tried(t: &mut [u32; 7], m: &mut [u32; 12], c: &[u32; 9], x: u64, row: &mut [u32; 64]) -> bool
     ensures { λ r. ⌜ TriesIn (answerOf x) r (now (t .entry)) (now (m .entry)) (now (c .entry)) (now (row .entry))
         (now (t .exit)) (now (m .exit)) (now (row .exit)) ⌝ }
 {
