@@ -6,7 +6,7 @@ use Rattle.engine.proofs.answer.Tie as tie
 
 pub answer-spec : {M : Type 1} → statement M
 answer-spec =
-    tie.close (tie.spec (λ c. search needs) (λ c. search needs) (λ c. search needs) (λ c κs. search needs) (λ c. search needs) (λ c. search needs)
+    tie.close (tie.spec (λ c. search needs) (λ c. search needs) (λ c. search needs) (λ c κs. tt) (λ c. search needs) (λ c. search needs)
     (λ c. answers-call _ _ _ _ (c .before .before .before .before .if1 .taken) (c .before .before .due .ensures) (c .before .numbers-of .ensures) (c .bytes-of .ensures))
     (λ c. search needs) (λ c. search needs)
     (λ c. answers-end _ _ _ _ (c .before .before .if1 .left) (c .before .outcome-at .ensures) (c .result-of .ensures)))

@@ -6,6 +6,6 @@ use Rattle.engine.proofs.asked.Tie as tie
 
 pub asked-spec : {M : Type 1} → statement M
 asked-spec =
-    tie.close (tie.spec (λ c κs. search needs) (λ c κs. search needs) (λ c κs. search needs) (λ c. search needs) (λ c. search needs)
+    tie.close (tie.spec (λ c κs. tt) (λ c κs. tt) (λ c κs. tt) (λ c. search needs) (λ c. search needs)
     (λ c. let a = c .before .before .before .before .before .before .before .before .before .before .before .before .before .before .before .before .before .args in asks-in (a .a) (a .t .now) (a .m .now) (a .c .now) (a .ws .now) (a .buf .now) _ _ _ _ _ _ _
     (c .before .before .before .before .before .before .before .before .before .before .before .before .store-at .ensures) (c .before .before .before .before .before .before .before .before .change .ensures) (c .begun .ensures)))

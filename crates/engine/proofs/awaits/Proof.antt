@@ -7,6 +7,6 @@ use Rattle.engine.proofs.awaits.Tie as tie
 
 pub awaits-spec : {M : Type 1} → statement M
 awaits-spec =
-    tie.close (tie.spec (λ c. search needs) (λ c κs. search needs)
+    tie.close (tie.spec (λ c. search needs) (λ c κs. tt)
     (λ c. awaits-answer (c .before .before .before .before .before .args .s) (lt-ltb _ _ (c .before .before .if1 .taken)) (c .is-aborting .ensures))
     (λ c. awaits-none (c .before .before .before .args .s) (le-ltb _ _ (c .if1 .left))))

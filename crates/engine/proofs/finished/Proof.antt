@@ -6,8 +6,8 @@ use Rattle.engine.proofs.finished.Tie as tie
 
 pub finished-spec : {M : Type 1} → statement M
 finished-spec =
-    tie.close (tie.spec (λ c. search needs) (λ c κs. search needs)
+    tie.close (tie.spec (λ c. search needs) (λ c κs. tt)
     (λ c. let a = c .before .before .before .before .before .before .args in finish-ends (a .o) (a .t .now) (a .m .now) (a .c .now) _ (a .ws .now) (a .buf .now) (c .before .before .if1 .taken) (c .over .ensures))
-    (λ c κs. search needs) (λ c κs. search needs) (λ c κs. search needs) (λ c. search needs) (λ c. search needs)
+    (λ c κs. tt) (λ c κs. tt) (λ c κs. tt) (λ c. search needs) (λ c. search needs)
     (λ c. let a = c .before .before .before .before .before .before .before .before .before .before .before .before .before .before .before .before .before .args in finish-asks (a .o) (a .t .now) (a .m .now) (a .c .now) (a .ws .now) (a .buf .now) _
     (c .before .before .before .before .before .before .before .before .before .before .before .at-of .ensures) (c .before .before .before .before .before .before .before .call-after .ensures) (c .before .before .before .before .asked .ensures)))

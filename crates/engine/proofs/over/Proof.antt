@@ -6,5 +6,5 @@ use Rattle.engine.proofs.over.Tie as tie
 
 pub over-spec : {M : Type 1} → statement M
 over-spec =
-    tie.close (tie.spec (λ c κs. search needs) (λ c. search needs) (λ c. search needs) (λ c. search needs) (λ c. search needs) (λ c. search needs)
+    tie.close (tie.spec (λ c κs. tt) (λ c. search needs) (λ c. search needs) (λ c. search needs) (λ c. search needs) (λ c. search needs)
     (λ c. let a = c .before .before .args in ends-in (a .o) _ _ (a .c .now) (c .before .outcome-told .ensures)))

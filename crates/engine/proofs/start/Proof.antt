@@ -7,5 +7,5 @@ use Rattle.engine.proofs.start.Tie as tie
 
 pub start-spec : {M : Type 1} → statement M
 start-spec =
-    tie.close (tie.spec (λ c κs. search needs) (λ c κs. search needs) (λ c. search needs) (λ c. search needs) (λ c. search needs)
+    tie.close (tie.spec (λ c κs. tt) (λ c κs. tt) (λ c. search needs) (λ c. search needs) (λ c. search needs)
     (λ c. started _ (c .before .before .before .before .before .before .before .before .before .before .before .before .remember .ensures refl) (c .before .before .before .before .before .start-in .ensures) (c .answer .ensures)))

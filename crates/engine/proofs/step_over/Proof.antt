@@ -6,7 +6,7 @@ use Rattle.engine.proofs.step_over.Tie as tie
 
 pub step-over-spec : {M : Type 1} → statement M
 step-over-spec =
-    tie.close (tie.spec (λ c κs. search needs) (λ c. search needs) (λ c. search needs) (λ c κs. search needs) (λ c. search needs)
+    tie.close (tie.spec (λ c κs. tt) (λ c. search needs) (λ c. search needs) (λ c κs. tt) (λ c. search needs)
     (λ c. let a = c .before .before .before .before .before .before .before .before .before .before .args in step-moves (a .a) (a .t .now) (a .m .now) (a .c .now) (a .ws .now) (a .buf .now) (c .enum-told .given .1) (c .before .before .before .before .op-step .ensures))
     (λ c. search needs) (λ c. search needs)
     (λ c. let a = c .before .before .before .before .before .before .before .before .before .before .before .before .before .before .before .before .before .before .before .before .before .args in step-finishes (a .a) (a .t .now) (a .m .now) (a .c .now) (a .ws .now) (a .buf .now) _

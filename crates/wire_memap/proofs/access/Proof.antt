@@ -6,9 +6,9 @@ use Rattle.wire_memap.proofs.access.Tie as tie
 
 pub access-spec : {M : Type 1} → statement M
 access-spec =
-    tie.close (tie.spec (λ c κs. search needs) (λ c. search needs) (λ c κs. search needs)
+    tie.close (tie.spec (λ c κs. tt) (λ c. search needs) (λ c κs. tt)
     (λ c. let a = c .before .before .before .before .before .before .before .args in access-known (a .phase) (a .request) (a .addr) (a .word) _ (a .t .now) (a .m .now)
     (c .before .before .before .before .before .select-of .ensures) (c .before .before .before .if1 .taken) (c .direct .ensures))
-    (λ c κs. search needs)
+    (λ c κs. tt)
     (λ c. let a = c .before .before .before .before .before .before .before .args in access-selects (a .phase) (a .request) (a .addr) (a .word) _ (a .t .now) (a .m .now)
     (c .before .before .before .before .before .select-of .ensures) (c .before .before .before .if1 .left) (c .selecting .ensures)))

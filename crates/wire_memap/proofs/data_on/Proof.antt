@@ -10,7 +10,7 @@ use Rattle.wire_memap.proofs.data_on.Tie as tie
 
 pub data-on-spec : {M : Type 1} → statement M
 data-on-spec =
-    tie.close (tie.spec (λ c. search needs) (λ c κs. search needs) (λ c. search needs) (λ c κs. search needs) (λ c κs. search needs) (λ c. search needs) (λ c. search needs) (λ c κs. search needs) (λ c κs. search needs) (λ c κs. search needs) (λ c κs. search needs)
+    tie.close (tie.spec (λ c. search needs) (λ c κs. tt) (λ c. search needs) (λ c κs. tt) (λ c κs. tt) (λ c. search needs) (λ c. search needs) (λ c κs. tt) (λ c κs. tt) (λ c κs. tt) (λ c κs. tt)
     (λ c h f. begins-of (λ b k. simp (c .before .before .before .match .keys1)) (c .access .ensures (omega arith) f _))
     (λ c h f. begins-of (λ b k. simp (c .before .before .before .before .match .keys2)) (c .access2 .ensures (omega arith) f _))
     (λ c h f. let a = c .before .before .before .before .before .before .args in

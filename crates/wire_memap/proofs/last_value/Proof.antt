@@ -13,7 +13,7 @@ pub last-value-spec : {M : Type 1} → statement M
 last-value-spec =
     tie.close (tie.spec (λ c. search needs)
     (λ c h. let a = c .before .before .before .args in ends-at Only (a .m .now) (a .row .now) (a .v) (a .v) h (ap phaseOf (c .if1 .taken)) (λ b k. refl))
-    (λ c. search needs) (λ c κs. search needs) (λ c. search needs)
+    (λ c. search needs) (λ c κs. tt) (λ c. search needs)
     (λ c h. let a = c .before .before .before .before .before .before .before .before .before .args in
     ends-at Last (a .m .now) (a .row .now) (a .v) 0 h (ap phaseOf (c .before .before .before .before .before .if2 .taken))
     (λ b k. ap (λ (rs : List ℕ). k (stands (a .m .now) rs b) (Value 0)) (sym (c .before .before .place-word .ensures))))

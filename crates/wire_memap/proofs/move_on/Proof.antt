@@ -10,9 +10,9 @@ use Rattle.wire_memap.proofs.move_on.Tie as tie
 
 pub move-on-spec : {M : Type 1} → statement M
 move-on-spec =
-    tie.close (tie.spec (λ c. search needs) (λ c κs. search needs)
+    tie.close (tie.spec (λ c. search needs) (λ c κs. tt)
     (λ c h f. let a = c .before .before .before .before .before .before .args in ended-selects (a .t .now) (a .m .now) (a .v) (a .row .now) (c .before .before .before .if1 .taken) (c .selected .ensures) f)
-    (λ c. search needs) (λ c. search needs) (λ c κs. search needs) (λ c κs. search needs) (λ c κs. search needs) (λ c κs. search needs) (λ c κs. search needs) (λ c κs. search needs) (λ c κs. search needs) (λ c κs. search needs) (λ c κs. search needs) (λ c κs. search needs) (λ c κs. search needs) (λ c κs. search needs) (λ c. search needs)
+    (λ c. search needs) (λ c. search needs) (λ c κs. tt) (λ c κs. tt) (λ c κs. tt) (λ c κs. tt) (λ c κs. tt) (λ c κs. tt) (λ c κs. tt) (λ c κs. tt) (λ c κs. tt) (λ c κs. tt) (λ c κs. tt) (λ c κs. tt) (λ c. search needs)
     (λ c h f. let a = c .before .before .before .before .before .before .before .before .before .before .before .before .before .before .before .args in goes-as (ended-value (a .m .now) (a .row .now) (a .v) (c .before .before .before .before .before .before .before .before .before .before .before .before .if1 .left))
     (goes-of (value-pulls (a .m .now) (a .row .now) (a .v) _ (c .before .before .before .before .before .before .before .before .before .before .match .keys1)
     (c .before .before .before .before .before .before .place-word .ensures ∙ ap (λ (i : ℕ). set (a .row .now) i (a .v)) (c .before .before .before .before .before .before .before .minus .ensures)) (c .before .minus2 .ensures)) (c .pull-on .ensures _ f)))

@@ -6,7 +6,7 @@ use Rattle.wire_memap.proofs.pull_on.Tie as tie
 
 pub pull-on-spec : {M : Type 1} → statement M
 pull-on-spec =
-    tie.close (tie.spec (λ c κs. search needs)
+    tie.close (tie.spec (λ c κs. tt)
     (λ c. let a = c .before .before .before .before .args in pull-ends (a .t .now) (a .m .now) (a .more) (c .before .before .before .if1 .taken) (c .direct .ensures))
-    (λ c. search needs) (λ c κs. search needs)
+    (λ c. search needs) (λ c κs. tt)
     (λ c. let a = c .before .before .before .before .args in pull-goes (a .t .now) (a .m .now) (a .more) (c .before .before .before .if1 .left) (c .direct2 .ensures)))

@@ -6,5 +6,5 @@ use Rattle.wire_memap.proofs.raw_start.Tie as tie
 
 pub raw-start-spec : {M : Type 1} → statement M
 raw-start-spec =
-    tie.close (tie.spec (λ c. search needs) (λ c κs. search needs)
+    tie.close (tie.spec (λ c. search needs) (λ c κs. tt)
     (λ c. let a = c .before .before .args in raw-begins (a .c) (a .t .now) (a .m .now) _ (c .begin-raw .ensures)))
