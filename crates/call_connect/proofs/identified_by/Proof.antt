@@ -9,10 +9,10 @@ use Rattle.call_connect.proofs.identified_by.Tie as tie
 pub identified-by-spec : {M : Type 1} → statement M
 identified-by-spec =
     tie.close (tie.spec
-    (λ c κs. search needs) (λ c κs. search needs)
+    (λ c κs. tt) (λ c κs. tt)
     (λ c. let a = c .before .before .before .args in no-target (a .how) (a .v) (sym (c .before .before .no-target .ensures) ∙ c .before .if1 .taken)
     ∙ c .ended .ensures)
-    (λ c. search needs) (λ c κs. search needs) (λ c. search needs) (λ c κs. search needs) (λ c. search needs) (λ c κs. search needs)
+    (λ c. search needs) (λ c κs. tt) (λ c. search needs) (λ c κs. tt) (λ c. search needs) (λ c κs. tt)
     (λ c. let t = c .before .before .before in
     simp (c .before .enum-told .given .1) (simp (sym (t .before .no-target .ensures) ∙ t .if1 .left) (c .ended2 .ensures)))
     (λ c. let t = c .before .before .before in

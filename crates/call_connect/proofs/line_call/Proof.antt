@@ -6,6 +6,6 @@ use Rattle.call_connect.proofs.line_call.Tie as tie
 pub line-call-spec : {M : Type 1} → statement M
 line-call-spec =
     tie.close (tie.spec
-    (λ c. search needs) (λ c κs. search needs) (λ c. search needs) (λ c κs. search needs) (λ c. search needs) (λ c κs. search needs)
+    (λ c. search needs) (λ c κs. tt) (λ c. search needs) (λ c κs. tt) (λ c. search needs) (λ c κs. tt)
     (λ c. search needs)
     (λ c. search needs) (λ c. simp (c .before .enum-told3 .given .1) (c .multidrop-call .ensures)))

@@ -13,5 +13,5 @@ returns c = simp (c .before .if1 .taken) (c .doing .ensures)
 pub line-on-spec : {M : Type 1} → statement M
 line-on-spec =
     tie.close (tie.spec
-    (λ c κs. search needs) returns (λ c. search needs) (λ c κs. search needs) (λ c. search needs) (λ c κs. search needs)
+    (λ c κs. tt) returns (λ c. search needs) (λ c κs. tt) (λ c. search needs) (λ c κs. tt)
     (λ c. line-more _ _ _ (c .before .before .if1 .left) ∙ (rw (c .before .line-call .ensures) at (c .doing2 .ensures))))

@@ -9,7 +9,7 @@ use Rattle.call_connect.proofs.multidrop_call.Tie as tie
 pub multidrop-call-spec : {M : Type 1} → statement M
 multidrop-call-spec =
     tie.close (tie.spec
-    (λ c κs. search needs) (λ c. simp (c .before .match .keys1) (simp (c .parity-of .ensures))) (λ c. simp (c .match .keys2)) (λ c. search needs)
+    (λ c κs. tt) (λ c. simp (c .before .match .keys1) (simp (c .parity-of .ensures))) (λ c. simp (c .match .keys2)) (λ c. search needs)
     (λ c. search needs) (λ c. search needs) (λ c. simp (c .match .keys6)) (λ c. simp (c .match .keys7)) (λ c. simp (c .match .keys8))
     (λ c. simp (c .match .keys9)) (λ c. simp (c .match .keys10)) (λ c. simp (c .match .keys11)) (λ c. simp (c .match .keys12))
     (λ c. simp (c .match .keys13)) (λ c. simp (c .match .keys14)) (λ c. past-rows (multidropLine _) _ _ (c .match .rest)))

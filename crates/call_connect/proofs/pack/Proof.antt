@@ -6,9 +6,9 @@ use Rattle.call_connect.proofs.pack.Tie as tie
 pub pack-spec : {M : Type 1} → statement M
 pack-spec =
     tie.close (tie.spec
-    (λ c. search needs) (λ c κs. search needs) (λ c κs. search needs) (λ c. search needs) (λ c κs. search needs) (λ c κs. search needs)
-    (λ c. search needs) (λ c κs. search needs) (λ c. search needs) (λ c κs. search needs) (λ c. search needs) (λ c κs. search needs)
-    (λ c. search needs) (λ c κs. search needs) (λ c. search needs) (λ c κs. search needs)
+    (λ c. search needs) (λ c κs. tt) (λ c κs. tt) (λ c. search needs) (λ c κs. tt) (λ c κs. tt)
+    (λ c. search needs) (λ c κs. tt) (λ c. search needs) (λ c κs. tt) (λ c. search needs) (λ c κs. tt)
+    (λ c. search needs) (λ c κs. tt) (λ c. search needs) (λ c κs. tt)
     (λ c. simp (c .before .before .before .p .given .1) (simp (c .at-step .ensures) (simp (c .before .how-number .ensures))))
     (λ c. simp (c .before .before .before .p2 .given .1) (simp (c .at-step2 .ensures) (simp (c .before .how-number2 .ensures))))
     (λ c. simp (c .before .before .p3 .given .1) (simp (c .at-step3 .ensures)))

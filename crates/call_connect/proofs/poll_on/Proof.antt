@@ -12,4 +12,4 @@ returns c = simp (c .before .if1 .taken) (c .ended .ensures)
 
 pub poll-on-spec : {M : Type 1} → statement M
 poll-on-spec = tie.close (tie.spec
-    (λ c κs. search needs) returns (λ c. search needs) (λ c κs. search needs) (λ c. polled-more _ _ (c .before .if1 .left) ∙ c .doing .ensures))
+    (λ c κs. tt) returns (λ c. search needs) (λ c κs. tt) (λ c. polled-more _ _ (c .before .if1 .left) ∙ c .doing .ensures))

@@ -6,5 +6,5 @@ use Rattle.call_connect.proofs.polled_by.Tie as tie
 
 pub polled-by-spec : {M : Type 1} → statement M
 polled-by-spec = tie.close (tie.spec
-    (λ c. search needs) (λ c κs. search needs) (λ c. simp (eq-eqb _ _ (c .before .if1 .taken)) (c .ended .ensures)) (λ c κs. search needs)
+    (λ c. search needs) (λ c κs. tt) (λ c. simp (eq-eqb _ _ (c .before .if1 .taken)) (c .ended .ensures)) (λ c κs. tt)
     (λ c. simp (ne-eqb _ _ (c .before .if1 .left)) (c .poll-on .ensures)))

@@ -30,6 +30,6 @@ returns-5 c = simp (c .before .before .c3 .given .1) (reselect-is _ ∙ c .line-
 pub start-spec : {M : Type 1} → statement M
 start-spec =
     tie.close (tie.spec
-    (λ c. search needs) (λ c κs. search needs) (λ c. search needs) (λ c κs. search needs) (λ c. search needs) (λ c κs. search needs)
+    (λ c. search needs) (λ c κs. tt) (λ c. search needs) (λ c κs. tt) (λ c. search needs) (λ c κs. tt)
     (λ c. search needs)
-    (λ c κs. search needs) (λ c. search needs) (λ c κs. search needs) returns returns-2 returns-3 returns-4 returns-5)
+    (λ c κs. tt) (λ c. search needs) (λ c κs. tt) returns returns-2 returns-3 returns-4 returns-5)

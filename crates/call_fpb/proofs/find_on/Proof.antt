@@ -10,7 +10,7 @@ pub find-on-spec : {M : Type 1} → statement M
 unfolding find
 find-on-spec =
     tie.close (tie.spec
-    (λ c κs. search needs) (λ c. simp (c .before .if1 .taken) (c .ended .ensures)) (λ c κs. search needs) (λ c κs. search needs)
-    (λ c κs. search needs)
+    (λ c κs. tt) (λ c. simp (c .before .if1 .taken) (c .ended .ensures)) (λ c κs. tt) (λ c κs. tt)
+    (λ c κs. tt)
     (λ c. find-more (c .before .before .before .before .args .clears) _ _ _ (c .before .before .before .if1 .left)
     ∙ (rw (c .before .comparator-at .ensures, c .before .before .minus .ensures) at (c .doing .ensures))))

@@ -6,10 +6,10 @@ use Rattle.call_fpb.proofs.pack.Tie as tie
 pub pack-spec : {M : Type 1} → statement M
 pack-spec =
     tie.close (tie.spec
-    (λ c. search needs) (λ c κs. search needs) (λ c. search needs) (λ c κs. search needs) (λ c κs. search needs) (λ c. search needs)
-    (λ c κs. search needs) (λ c. search needs) (λ c κs. search needs) (λ c κs. search needs) (λ c. search needs) (λ c κs. search needs)
-    (λ c κs. search needs) (λ c. search needs) (λ c κs. search needs) (λ c κs. search needs) (λ c κs. search needs) (λ c κs. search needs)
-    (λ c. search needs) (λ c κs. search needs) (λ c. simp (c .before .before .p .given .1) (simp (c .at-step .ensures)))
+    (λ c. search needs) (λ c κs. tt) (λ c. search needs) (λ c κs. tt) (λ c κs. tt) (λ c. search needs)
+    (λ c κs. tt) (λ c. search needs) (λ c κs. tt) (λ c κs. tt) (λ c. search needs) (λ c κs. tt)
+    (λ c κs. tt) (λ c. search needs) (λ c κs. tt) (λ c κs. tt) (λ c κs. tt) (λ c κs. tt)
+    (λ c. search needs) (λ c κs. tt) (λ c. simp (c .before .before .p .given .1) (simp (c .at-step .ensures)))
     (λ c. simp (c .before .before .before .p2 .given .1) (simp (c .at-step2 .ensures) (simp (c .before .wide .ensures .1))))
     (λ c. simp (c .before .before .p3 .given .1) (c .pack-seek .ensures))
     (λ c. simp (c .before .before .before .p4 .given .1) (simp (c .at-step3 .ensures) (simp (c .before .flag .ensures))))

@@ -10,7 +10,7 @@ pub seek-on-spec : {M : Type 1} → statement M
 unfolding seek
 seek-on-spec =
     tie.close (tie.spec
-    (λ c κs. search needs) (λ c. simp (c .before .if1 .taken) (c .take-free .ensures)) (λ c κs. search needs) (λ c κs. search needs)
-    (λ c κs. search needs)
+    (λ c κs. tt) (λ c. simp (c .before .if1 .taken) (c .take-free .ensures)) (λ c κs. tt) (λ c κs. tt)
+    (λ c κs. tt)
     (λ c. seek-more _ _ _ _ (c .before .before .before .if1 .left)
     ∙ (rw (c .before .comparator-at .ensures, c .before .before .minus .ensures) at (c .doing .ensures))))

@@ -8,6 +8,6 @@ pub start-spec : {M : Type 1} → statement M
 unfolding fpbJob
 start-spec =
     tie.close (tie.spec
-    (λ c. search needs) (λ c κs. search needs) (λ c. search needs) (λ c κs. search needs) (λ c. search needs) (λ c κs. search needs)
+    (λ c. search needs) (λ c κs. tt) (λ c. search needs) (λ c κs. tt) (λ c. search needs) (λ c κs. tt)
     (λ c. simp (c .before .before .c .given .1) (c .doing .ensures)) (λ c. simp (c .before .before .c2 .given .1) (c .doing2 .ensures))
     (λ c. simp (c .before .before .c3 .given .1) (c .doing3 .ensures)))

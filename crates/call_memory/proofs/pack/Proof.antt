@@ -7,4 +7,4 @@ use Rattle.call_memory.proofs.pack.Tie as tie
 
 pub pack-spec : {M : Type 1} → statement M
 pack-spec = tie.close (tie.spec
-    (λ c κs. search needs) (λ c κs. search needs) (λ c. ap memoryAtOf (c .at-step .ensures) ∙ c .before .step-number .ensures _))
+    (λ c κs. tt) (λ c κs. tt) (λ c. ap memoryAtOf (c .at-step .ensures) ∙ c .before .step-number .ensures _))

@@ -5,5 +5,5 @@ use Rattle.call_memory.proofs.patched.Tie as tie
 
 pub patched-spec : {M : Type 1} → statement M
 patched-spec = tie.close (tie.spec
-    (λ c κs. search needs) (λ c κs. search needs) (λ c. search needs) (λ c κs. search needs)
+    (λ c κs. tt) (λ c κs. tt) (λ c. search needs) (λ c κs. tt)
     (λ c. simp (← c .before .before .minus .ensures) (simp (← c .before .minus2 .ensures) (c .moving .ensures .0))))

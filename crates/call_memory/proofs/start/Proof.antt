@@ -8,11 +8,11 @@ pub start-spec : {M : Type 1} → statement M
 unfolding memoryJob
 start-spec =
     tie.close (tie.spec
-    (λ c. search needs) (λ c κs. search needs) (λ c. search needs) (λ c κs. search needs) (λ c. search needs) (λ c κs. search needs) (λ c. search needs)
-    (λ c κs. search needs)
-    (λ c. search needs) (λ c κs. search needs) (λ c. search needs) (λ c κs. search needs) (λ c. search needs) (λ c κs. search needs)
+    (λ c. search needs) (λ c κs. tt) (λ c. search needs) (λ c κs. tt) (λ c. search needs) (λ c κs. tt) (λ c. search needs)
+    (λ c κs. tt)
+    (λ c. search needs) (λ c κs. tt) (λ c. search needs) (λ c κs. tt) (λ c. search needs) (λ c κs. tt)
     (λ c. search needs)
-    (λ c κs. search needs) (λ c. search needs) (λ c κs. search needs) (λ c. simp (c .before .before .c .given .1))
+    (λ c κs. tt) (λ c. search needs) (λ c κs. tt) (λ c. simp (c .before .before .c .given .1))
     (λ c. simp (c .before .before .c2 .given .1) (c .whole .ensures)) (λ c. simp (c .before .before .c3 .given .1) (c .whole2 .ensures))
     (λ c. simp (c .before .before .c4 .given .1) (c .whole3 .ensures)) (λ c. simp (c .before .before .c5 .given .1) (c .whole4 .ensures))
     (λ c. simp (c .before .before .c6 .given .1) (c .read-words .ensures)) (λ c. simp (c .before .before .c7 .given .1) (c .write-words .ensures))

@@ -10,8 +10,8 @@ use Rattle.call_memory.proofs.start_mem.Tie as tie
 pub start-mem-spec : {M : Type 1} → statement M
 start-mem-spec =
     tie.close (tie.spec
-    (λ c κs. search needs)
+    (λ c κs. tt)
     (λ c. simp (le-leb 4294967296 (c .before .before .args .addr + c .before .before .args .bytes) (omega arith)) (c .ended .ensures))
     (λ c. search needs)
-    (λ c κs. search needs) (λ c. simp (le-leb _ _ (c .before .if2 .taken)) (c .ended2 .ensures)) (λ c. search needs) (λ c. search needs)
-    (λ c. search needs) (λ c κs. search needs) (λ c. simp (lt-leb _ _ (c .before .if2 .left)) (c .mem-on .ensures .0)))
+    (λ c κs. tt) (λ c. simp (le-leb _ _ (c .before .if2 .taken)) (c .ended2 .ensures)) (λ c. search needs) (λ c. search needs)
+    (λ c. search needs) (λ c κs. tt) (λ c. simp (lt-leb _ _ (c .before .if2 .left)) (c .mem-on .ensures .0)))

@@ -17,7 +17,7 @@ known c = spanned _ _ _ (omega arith) (c .before .span-of .ensures)
 pub advance-spec : {M : Type 1} → statement M
 advance-spec =
     tie.close (tie.spec
-    (λ c κs. search needs) (λ c. search needs)
+    (λ c κs. tt) (λ c. search needs)
     (λ c. let h = known c in omega arith) (λ c. let h = known c in omega arith) (λ c. let h = known c in omega arith)
     (λ c. let h = known c in omega arith) (λ c. let h = known c in omega arith) (λ c. let h = known c in omega arith)
     (λ c. let h = known c in omega arith)

@@ -6,8 +6,8 @@ use Rattle.target_ports.proofs.ctrl_stat.Tie as tie
 pub ctrl-stat-spec : {M : Type 1} → statement M
 ctrl-stat-spec =
     tie.close (tie.spec
-    (λ c κs. search needs) (λ c κs. search needs) (λ c. search needs) (λ c κs. search needs) (λ c κs. search needs) (λ c. search needs)
-    (λ c κs. search needs) (λ c. search needs)
+    (λ c κs. tt) (λ c κs. tt) (λ c. search needs) (λ c κs. tt) (λ c κs. tt) (λ c. search needs)
+    (λ c κs. tt) (λ c. search needs)
     (λ c. let b = c .before .before in
     simp (
       b .before .before .bit-if .ensures .0,

@@ -8,8 +8,8 @@ use Rattle.target_ports.proofs.drw_read.Tie as tie
 pub drw-read-spec : {M : Type 1} → statement M
 drw-read-spec =
     tie.close (tie.spec
-    (λ c κs. search needs) (λ c. search needs) (λ c κs. search needs) (λ c. search needs) (λ c κs. search needs)
-    (λ c. search needs) (λ c κs. search needs) (λ c κs. search needs)
+    (λ c κs. tt) (λ c. search needs) (λ c κs. tt) (λ c. search needs) (λ c κs. tt)
+    (λ c. search needs) (λ c κs. tt) (λ c κs. tt)
     (λ c. let b = c .before .before in
     let a = b .before .before .before .before .before .before .args in
     let w = sym (b .before .before .load-word .ensures) ∙ b .w .given .1 in

@@ -6,5 +6,5 @@ use Rattle.target_ports.proofs.is_acked.Tie as tie
 
 pub is-acked-spec : {M : Type 1} → statement M
 is-acked-spec = tie.close (tie.spec
-    (λ c κs. search needs) (λ c. simp (sym (c .before .before .is-powered .ensures) ∙ c .before .if1 .taken))
+    (λ c κs. tt) (λ c. simp (sym (c .before .before .is-powered .ensures) ∙ c .before .if1 .taken))
     (λ c. simp (sym (c .before .is-powered .ensures) ∙ c .if1 .left)))

@@ -6,9 +6,9 @@ use Rattle.target_ports.proofs.reach_ap.Tie as tie
 pub reach-ap-spec : {M : Type 1} → statement M
 reach-ap-spec =
     tie.close (tie.spec
-    (λ c. search needs) (λ c. search needs) (λ c. search needs) (λ c κs. search needs) (λ c. search needs) (λ c κs. search needs) (λ c. search needs)
-    (λ c κs. search needs) (λ c. search needs) (λ c κs. search needs) (λ c. search needs) (λ c κs. search needs) (λ c. search needs)
-    (λ c κs. search needs) (λ c. search needs) (λ c κs. search needs) (λ c. search needs) (λ c κs. search needs)
+    (λ c. search needs) (λ c. search needs) (λ c. search needs) (λ c κs. tt) (λ c. search needs) (λ c κs. tt) (λ c. search needs)
+    (λ c κs. tt) (λ c. search needs) (λ c κs. tt) (λ c. search needs) (λ c κs. tt) (λ c. search needs)
+    (λ c κs. tt) (λ c. search needs) (λ c κs. tt) (λ c. search needs) (λ c κs. tt)
     (λ c. let r = c .before .enum-told .given .1 in (simp r (c .did .ensures), simp r))
     (λ c. let r = c .before .enum-told2 .given .1 in (simp r (c .post .ensures), simp r))
     (λ c. let r = c .before .enum-told3 .given .1 in (simp r (c .did2 .ensures), simp r))

@@ -6,11 +6,11 @@ use Rattle.target_ports.proofs.reach_dp.Tie as tie
 pub reach-dp-spec : {M : Type 1} → statement M
 reach-dp-spec =
     tie.close (tie.spec
-    (λ c. search needs) (λ c κs. search needs) (λ c κs. search needs) (λ c. search needs) (λ c κs. search needs) (λ c. search needs)
-    (λ c κs. search needs) (λ c κs. search needs) (λ c. search needs) (λ c κs. search needs) (λ c κs. search needs) (λ c κs. search needs)
-    (λ c. search needs) (λ c κs. search needs) (λ c. search needs) (λ c κs. search needs) (λ c. search needs) (λ c κs. search needs)
+    (λ c. search needs) (λ c κs. tt) (λ c κs. tt) (λ c. search needs) (λ c κs. tt) (λ c. search needs)
+    (λ c κs. tt) (λ c κs. tt) (λ c. search needs) (λ c κs. tt) (λ c κs. tt) (λ c κs. tt)
+    (λ c. search needs) (λ c κs. tt) (λ c. search needs) (λ c κs. tt) (λ c. search needs) (λ c κs. tt)
     (λ c. search needs)
-    (λ c κs. search needs) (λ c. simp (c .before .before .enum-told .given .1, c .before .cleared .ensures, c .did .ensures))
+    (λ c κs. tt) (λ c. simp (c .before .before .enum-told .given .1, c .before .cleared .ensures, c .did .ensures))
     (λ c. simp (c .before .enum-told2 .given .1, c .did2 .ensures))
     (λ c. simp (c .before .before .enum-told3 .given .1, c .before .requested .ensures, c .did3 .ensures))
     (λ c. simp (c .before .before .before .enum-told4 .given .1, c .did4 .ensures, c .before .ctrl-stat .ensures, c .before .before .less .ensures))

@@ -7,7 +7,7 @@ use Rattle.target_ports.proofs.requested.Tie as tie
 pub requested-spec : {M : Type 1} → statement M
 requested-spec =
     tie.close (tie.spec
-    (λ c κs. search needs) (λ c. rw (sym (c .before .is-powered .ensures) ∙ c .if1 .taken)) (λ c κs. search needs)
+    (λ c κs. tt) (λ c. rw (sym (c .before .is-powered .ensures) ∙ c .if1 .taken)) (λ c κs. tt)
     (λ c. rw (
       sym (c .before .before .before .is-powered .ensures) ∙ c .before .before .if1 .left,
       sym (c .before .is-powered2 .ensures)
