@@ -10,7 +10,7 @@ room=$(mktemp -d)
 trap 'rm -rf "$room"' EXIT
 log=$room/log
 # rt waits for all that it started at a time before it starts the next: with four at a time no core of two stands idle for long, and
-# with more each check takes longer (eight at a time took a fifth more processor time)
+# with more each check takes longer (over the edits of `wire`, eight at a time took a fifth more processor time)
 export RT_JOBS="${RT_JOBS:-4}"
 rt ci 2>&1 | tee "$log"
 last=$(tail -n 1 "$log")
