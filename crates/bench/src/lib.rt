@@ -2,7 +2,7 @@
 // given, or started and stepped, the caller making the transport calls.
 ghost use mathlib.Core.Path.{_≡_};
 ghost use Rattle.wire_numbers.specs.Log.{answerOf};
-ghost use Rattle.engine.specs.Laws.Step.{TriesIn};
+ghost use Rattle.engine_words.specs.Laws.Step.{TriesIn};
 ghost use Rattle.bench.specs.Played.{callNo, Counted};
 ghost use Rattle.bench.specs.Laws.Steps.{BegunIn, SteppedBy};
 use call_connect::ConnectCall;
@@ -81,8 +81,8 @@ pub extern "C" fn bench_start(
         (now (buf .entry)) (now (t .exit)) (now (m .exit)) (now (c .exit)) (now (row .exit)) (now (words .exit)) (now (buf .exit)) ⌝ }
 {
     wire_memap::remember(m, call::new());
-    engine::start_in(t, m, c, call_no(call, addr), row, words, buf);
-    engine::is_running(c)
+    engine_words::start_in(t, m, c, call_no(call, addr), row, words, buf);
+    engine_words::is_running(c)
 }
 
 // A value is taken at once where an access follows it.
@@ -92,10 +92,10 @@ fn tried(t: &mut [u32; 7], m: &mut [u32; 12], c: &[u32; 9], x: u64, row: &mut [u
 {
     if x < 0x100000000 {
         let v = x as u32;
-        if engine::runs_in(t, m, c, v, row) {
+        if engine_words::runs_in(t, m, c, v, row) {
             return true;
         }
-        return engine::moves_in(t, m, c, v, row);
+        return engine_words::moves_in(t, m, c, v, row);
     }
     false
 }
@@ -117,6 +117,6 @@ pub extern "C" fn bench_step(
     if tried(t, m, c, x, row) {
         return true;
     }
-    engine::step_in(t, m, c, wire_numbers::answer_of(x), row, words, buf);
-    engine::is_running(c)
+    engine_words::step_in(t, m, c, wire_numbers::answer_of(x), row, words, buf);
+    engine_words::is_running(c)
 }

@@ -10,7 +10,7 @@ use Rattle.wire.specs.Wire.{Memory}
 use Rattle.wire.specs.declared.Remembered.{Remembered}
 use Rattle.wire_memap.specs.Action.{remembering}
 use Rattle.wire_memap.specs.Ports.{selected}
-use Rattle.call.specs.Bytes.{storeWords, storePart, loadWords, patchWord, fromPlace}
+use Rattle.call_bytes.specs.Bytes.{storeWords, storePart, loadWords, patchWord, fromPlace}
 use Rattle.call.specs.declared.Change.{Change}
 use Rattle.call.specs.declared.Change.the-variants as C
 

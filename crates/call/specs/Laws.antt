@@ -1,5 +1,3 @@
-pub mod Byte
 pub mod Change
 pub mod Job
 pub mod Asks
-pub mod Rows

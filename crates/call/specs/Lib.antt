@@ -1,4 +1,3 @@
-pub mod Bytes
 pub mod Change
 pub mod Job
 pub mod Laws

@@ -9,9 +9,9 @@ ghost use Rattle.call.specs.Job.{ends};
 ghost use Rattle.call_connect.specs.Connect.{connectJob, parity, noTarget};
 ghost use Rattle.call_connect.specs.Laws.After.{connectAfter, phaseAfter, connectAtOf, howOf, goesOn, swdLine, multidropLine, line, nth, lineFrom, identified, polled, afterPoll};
 use call::Asks;
-use call::At;
 use call::Change;
 use call::Next;
+use call_at::At;
 use wire::ArmError;
 use wire::Call;
 use wire::Outcome;
@@ -165,13 +165,13 @@ fn pack(p: ConnectAt) -> At
             how,
             left,
             targetsel,
-        } => call::at_step(0, how_number(how), left, targetsel, 0, 0),
-        ConnectAt::Dpidr(how) => call::at_step(1, how_number(how), 0, 0, 0, 0),
-        ConnectAt::Abort(dpidr) => call::at_step(2, dpidr, 0, 0, 0, 0),
-        ConnectAt::Select(dpidr) => call::at_step(3, dpidr, 0, 0, 0, 0),
-        ConnectAt::Power(dpidr) => call::at_step(4, dpidr, 0, 0, 0, 0),
-        ConnectAt::Poll { dpidr, left } => call::at_step(5, dpidr, left, 0, 0, 0),
-        ConnectAt::Pulse => call::at_step(6, 0, 0, 0, 0, 0),
+        } => call_at::at_step(0, how_number(how), left, targetsel, 0, 0),
+        ConnectAt::Dpidr(how) => call_at::at_step(1, how_number(how), 0, 0, 0, 0),
+        ConnectAt::Abort(dpidr) => call_at::at_step(2, dpidr, 0, 0, 0, 0),
+        ConnectAt::Select(dpidr) => call_at::at_step(3, dpidr, 0, 0, 0, 0),
+        ConnectAt::Power(dpidr) => call_at::at_step(4, dpidr, 0, 0, 0, 0),
+        ConnectAt::Poll { dpidr, left } => call_at::at_step(5, dpidr, left, 0, 0, 0),
+        ConnectAt::Pulse => call_at::at_step(6, 0, 0, 0, 0, 0),
     }
 }
 
@@ -204,7 +204,7 @@ fn ended(o: Outcome) -> Asks
 {
     Asks {
         change: Change::Nothing,
-        at: call::at_step(0, 0, 0, 0, 0, 0),
+        at: call_at::at_step(0, 0, 0, 0, 0, 0),
         next: Next::End(o),
     }
 }

@@ -14,9 +14,9 @@ ghost use Rattle.call_fpb.specs.declared.FpbAt.the-variants.{Seek};
 mod fpb;
 
 use call::Asks;
-use call::At;
 use call::Change;
 use call::Next;
+use call_at::At;
 use wire::Outcome;
 use wire_memap::Op;
 
@@ -110,11 +110,11 @@ fn comparator_at(i: u8) -> u32
 fn pack_seek(value: u32, n: u8, left: u8, free: Free) -> At
     ensures { λ r. ⌜ fpbAtOf r ≡ Seek value n left free ⌝ }
 {
-    let n = call::wide(n);
-    let left = call::wide(left);
+    let n = wire::wide(n);
+    let left = wire::wide(left);
     match free {
-        Free::Nowhere => call::at_step(2, value, n, left, 0, 0),
-        Free::At(i) => call::at_step(3, value, n, left, call::wide(i), 0),
+        Free::Nowhere => call_at::at_step(2, value, n, left, 0, 0),
+        Free::At(i) => call_at::at_step(3, value, n, left, wire::wide(i), 0),
     }
 }
 
@@ -123,30 +123,44 @@ fn pack(p: FpbAt) -> At
     ensures { λ r. ⌜ fpbAtOf r ≡ p ⌝ }
 {
     match p {
-        FpbAt::SetCtrl(addr) => call::at_step(0, addr, 0, 0, 0, 0),
-        FpbAt::Enable { value, n } => call::at_step(1, value, call::wide(n), 0, 0, 0),
+        FpbAt::SetCtrl(addr) => call_at::at_step(0, addr, 0, 0, 0, 0),
+        FpbAt::Enable { value, n } => call_at::at_step(1, value, wire::wide(n), 0, 0, 0),
         FpbAt::Seek {
             value,
             n,
             left,
             free,
         } => pack_seek(value, n, left, free),
-        FpbAt::Revision { clears, addr } => call::at_step(4, addr, 0, 0, call::flag(clears), 0),
-        FpbAt::Count { clears, value } => call::at_step(5, value, 0, 0, call::flag(clears), 0),
+        FpbAt::Revision { clears, addr } => call_at::at_step(
+            4,
+            addr,
+            0,
+            0,
+            call_at::flag(clears),
+            0,
+        ),
+        FpbAt::Count { clears, value } => call_at::at_step(
+            5,
+            value,
+            0,
+            0,
+            call_at::flag(clears),
+            0,
+        ),
         FpbAt::Find {
             clears,
             value,
             n,
             left,
-        } => call::at_step(
+        } => call_at::at_step(
             6,
             value,
-            call::wide(n),
-            call::wide(left),
-            call::flag(clears),
+            wire::wide(n),
+            wire::wide(left),
+            call_at::flag(clears),
             0,
         ),
-        FpbAt::Write => call::at_step(7, 0, 0, 0, 0, 0),
+        FpbAt::Write => call_at::at_step(7, 0, 0, 0, 0, 0),
     }
 }
 
@@ -199,7 +213,7 @@ fn ended(o: Outcome) -> Asks
 {
     Asks {
         change: Change::Nothing,
-        at: call::at_step(0, 0, 0, 0, 0, 0),
+        at: call_at::at_step(0, 0, 0, 0, 0, 0),
         next: Next::End(o),
     }
 }

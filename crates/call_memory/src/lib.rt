@@ -17,9 +17,9 @@ ghost use Rattle.call_memory.specs.declared.Mem.{Mem};
 ghost use Rattle.call_memory.specs.declared.MemoryAt.the-variants.{Turn};
 ghost use Rattle.call_memory.specs.declared.TurnStep.the-variants.{ReadRun, ReadPart, PartRead};
 use call::Asks;
-use call::At;
 use call::Change;
 use call::Next;
+use call_at::At;
 use wire::ArmError;
 use wire::Outcome;
 use wire_memap::Op;
@@ -108,7 +108,7 @@ fn step_number(step: TurnStep) -> u32
 fn pack(step: TurnStep, m: Mem) -> At
     ensures { λ r. ⌜ memoryAtOf r ≡ Turn step m ⌝ }
 {
-    call::at_step(step_number(step), m.stop, m.len, m.left, m.size, 0)
+    call_at::at_step(step_number(step), m.stop, m.len, m.left, m.size, 0)
 }
 
 // Which operation is in flight.
@@ -153,7 +153,7 @@ fn ended(o: Outcome) -> Asks
 {
     Asks {
         change: Change::Nothing,
-        at: call::at_step(0, 0, 0, 0, 0, 0),
+        at: call_at::at_step(0, 0, 0, 0, 0, 0),
         next: Next::End(o),
     }
 }
@@ -164,7 +164,7 @@ fn whole(op: Op) -> Asks
 {
     Asks {
         change: Change::Nothing,
-        at: call::at_step(0, 0, 0, 0, 0, 0),
+        at: call_at::at_step(0, 0, 0, 0, 0, 0),
         next: Next::Do(op),
     }
 }
@@ -233,7 +233,7 @@ fn mem_on(read: bool, stop: u32, len: u32, left: u32) -> Asks
     if left == 0 {
         return Asks {
             change: Change::Nothing,
-            at: call::at_step(0, 0, 0, 0, 0, 0),
+            at: call_at::at_step(0, 0, 0, 0, 0, 0),
             next: Next::End(Outcome::Value(0)),
         };
     }
@@ -314,7 +314,7 @@ pub fn start(c: MemoryCall, words: usize, bytes: usize) -> Asks
     match c {
         MemoryCall::SetApsel(apsel) => Asks {
             change: Change::Apsel(apsel),
-            at: call::at_step(0, 0, 0, 0, 0, 0),
+            at: call_at::at_step(0, 0, 0, 0, 0, 0),
             next: Next::End(Outcome::Value(0)),
         },
         MemoryCall::ApRegRead(addr) => whole(Op::ApRead { addr: addr }),

@@ -17,9 +17,9 @@ mod nrf52;
 mod nrf54;
 
 use call::Asks;
-use call::At;
 use call::Change;
 use call::Next;
+use call_at::At;
 use wire::ArmError;
 use wire::Outcome;
 use wire_memap::Op;
@@ -219,7 +219,7 @@ fn pack_flash(step: FlashStep, chip: Chip, then: Flash) -> At
     let s = step_numbers(step);
     let c = chip_number(chip);
     let f = flash_numbers(then);
-    call::at_step(flash_number(s.kind, c, f.kind), s.count, f.b, f.c, f.d, f.e)
+    call_at::at_step(flash_number(s.kind, c, f.kind), s.count, f.b, f.c, f.d, f.e)
 }
 
 // Which operation is in flight, in numbers.
@@ -227,14 +227,14 @@ fn pack(p: NrfAt) -> At
     ensures { λ r. ⌜ nrfAtOf r ≡ p ⌝ }
 {
     match p {
-        NrfAt::Idr => call::at_step(0, 0, 0, 0, 0, 0),
-        NrfAt::Status(known) => call::at_step(1, call::flag(known), 0, 0, 0, 0),
-        NrfAt::EraseAll(polls) => call::at_step(2, polls, 0, 0, 0, 0),
-        NrfAt::Erasing(left) => call::at_step(3, left, 0, 0, 0, 0),
-        NrfAt::Reset(erased) => call::at_step(4, call::flag(erased), 0, 0, 0, 0),
-        NrfAt::Release(erased) => call::at_step(5, call::flag(erased), 0, 0, 0, 0),
+        NrfAt::Idr => call_at::at_step(0, 0, 0, 0, 0, 0),
+        NrfAt::Status(known) => call_at::at_step(1, call_at::flag(known), 0, 0, 0, 0),
+        NrfAt::EraseAll(polls) => call_at::at_step(2, polls, 0, 0, 0, 0),
+        NrfAt::Erasing(left) => call_at::at_step(3, left, 0, 0, 0, 0),
+        NrfAt::Reset(erased) => call_at::at_step(4, call_at::flag(erased), 0, 0, 0, 0),
+        NrfAt::Release(erased) => call_at::at_step(5, call_at::flag(erased), 0, 0, 0, 0),
         NrfAt::Flash { step, chip, then } => pack_flash(step, chip, then),
-        NrfAt::Last => call::at_step(7, 0, 0, 0, 0, 0),
+        NrfAt::Last => call_at::at_step(7, 0, 0, 0, 0, 0),
     }
 }
 
@@ -266,7 +266,7 @@ fn ended(o: Outcome) -> Asks
     let change = Change::Nothing;
     Asks {
         change: change,
-        at: call::at_step(0, 0, 0, 0, 0, 0),
+        at: call_at::at_step(0, 0, 0, 0, 0, 0),
         next: Next::End(o),
     }
 }
@@ -299,7 +299,7 @@ fn leaving(o: Outcome) -> Asks
 {
     Asks {
         change: Change::Apsel(0),
-        at: call::at_step(0, 0, 0, 0, 0, 0),
+        at: call_at::at_step(0, 0, 0, 0, 0, 0),
         next: Next::End(o),
     }
 }

@@ -5,13 +5,13 @@ use mathlib.Core.List.{List, []}
 use mathlib.Core.Path.{_≡_}
 use Rattle.wire.specs.Bytes.{handed, padded}
 use Rattle.wire.specs.Wire.{Wire, Memory, memoryOf, done, ask, tell, follow}
-use Rattle.wire.specs.Count.{Counted}
 use Rattle.wire.specs.declared.Answer.{Answer}
 use Rattle.wire.specs.declared.Outcome.{Outcome}
 use Rattle.wire_numbers.specs.Results.{resultOf}
 use Rattle.wire_numbers.specs.Numbers.{numbersOf}
 use Rattle.wire_memap.specs.Laws.Doing.{rememberedOf}
-use Rattle.engine.specs.Laws.State.{Status, Running, Ended, statusOf, ownOf, stateTree}
+use Rattle.engine_words.specs.Status.{Ended, statusOf, ownOf, CountedIn}
+use Rattle.engine.specs.Laws.State.{stateTree}
 use Rattle.engine.specs.declared.NextStep.{NextStep}
 use Rattle.engine.specs.declared.NextStep.the-variants as N
 use Rattle.engine.specs.declared.State.{State}
@@ -40,11 +40,6 @@ abbrev pub awaited : Wire → Bool
 awaited (done m o) = false
 awaited (ask m c f) = true
 awaited (tell m c w) = false
-
--- The transport call in flight holds a count of at most 65 (02, e); of a call that has ended nothing is in flight.
-abbrev pub CountedIn : Status → List ℕ → Type 0
-CountedIn Running t = Counted t
-CountedIn (Ended o) t = Unit {0}
 
 -- The answer a reports the tree w: what comes next, its bytes, what is remembered, the words ws and the buffer b; and its state
 -- stands for w, with a count of tries of at most 65.

@@ -8,9 +8,9 @@ ghost use lib.Seq.{sets};
 ghost use Rattle.engine_calls.specs.Calls.{jobOf, lentWords, lentFlash, lent, frameOf, coreFrame, frameFor, rowWith, leave};
 ghost use Rattle.engine_calls.specs.Laws.After.{callAfter, asksJob, inGroup};
 use call::Asks;
-use call::At;
 use call::Change;
 use call::Next;
+use call_at::At;
 use call_connect::ConnectCall;
 use call_core::CoreCall;
 use call_fpb::FpbCall;
@@ -55,7 +55,7 @@ fn grouped(group: u32, q: Asks) -> Asks
     let next = q.next;
     Asks {
         change: change,
-        at: call::at_step(1024 * group + at.step % 1024, at.a, at.b, at.c, at.d, at.e),
+        at: call_at::at_step(1024 * group + at.step % 1024, at.a, at.b, at.c, at.d, at.e),
         next: next,
     }
 }

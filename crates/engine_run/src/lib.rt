@@ -7,7 +7,7 @@ ghost use lib.ListN.{length, take};
 ghost use Rattle.wire.specs.Wire.{Wire, play};
 ghost use Rattle.engine_calls.specs.Calls.{callTree, rowFor};
 ghost use Rattle.wire_numbers.specs.Results.{endingOf};
-ghost use Rattle.engine.specs.Laws.Step.{LentIn};
+ghost use Rattle.engine_words.specs.Laws.Step.{LentIn};
 ghost use Rattle.engine_run.specs.Run.{within, RanAs};
 ghost use Rattle.engine_run.specs.Laws.Runs.{Turns, Stops, endingIn};
 use engine_calls::EngineCall;
@@ -55,16 +55,16 @@ fn turn(
     let x = answers[j];
     if x < 0x100000000 {
         let v = x as u32;
-        if engine::runs_in(t, m, c, v, row) {
+        if engine_words::runs_in(t, m, c, v, row) {
             return;
         }
-        if engine::moves_in(t, m, c, v, row) {
+        if engine_words::moves_in(t, m, c, v, row) {
             return;
         }
-        engine::step_in(t, m, c, Answer::Good(v), row, words, buf);
+        engine_words::step_in(t, m, c, Answer::Good(v), row, words, buf);
         return;
     }
-    engine::step_in(t, m, c, wire_numbers::answer_of(x), row, words, buf);
+    engine_words::step_in(t, m, c, wire_numbers::answer_of(x), row, words, buf);
 }
 
 // The turns of a call that is started, until it ends or no answer is left; how many there were.
@@ -87,7 +87,7 @@ fn run_on(
 {
     let mut i: u32 = 0;
     while i < limit {
-        if !engine::is_running(c) {
+        if !engine_words::is_running(c) {
             return i;
         }
         turn(t, m, c, i, answers, row, words, buf, log);
@@ -100,13 +100,13 @@ fn run_on(
 fn ending_of(c: &[u32; 9]) -> CallEnding
     ensures { λ r. ⌜ r ≡ endingOf (endingIn (now (c .entry))) ⌝ }
 {
-    if engine::is_running(c) {
+    if engine_words::is_running(c) {
         return CallEnding {
             number: 11,
             value: 0,
         };
     }
-    engine::ending(c)
+    engine_words::ending(c)
 }
 
 // A whole call over a budget. The answers are what is left of the budget: where there are fewer, the budget is as many as they are.
@@ -135,7 +135,7 @@ pub fn run(
     let mut m = [0u32; 12];
     let mut c = [0u32; 9];
     wire_memap::remember(&mut m, r);
-    engine::start_in(&mut t, &mut m, &mut c, x, &mut row, words, buf);
+    engine_words::start_in(&mut t, &mut m, &mut c, x, &mut row, words, buf);
     let n = run_on(
         &mut t,
         &mut m,

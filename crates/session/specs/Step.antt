@@ -11,8 +11,9 @@ use Rattle.wire_numbers.specs.Results.{endingOf}
 use Rattle.wire_numbers.specs.declared.CallEnding.{CallEnding}
 use Rattle.engine_calls.specs.Calls.{leave}
 use Rattle.wire_memap.specs.Laws.Doing.{rememberedOf}
-use Rattle.engine.specs.Laws.State.{statusOf, stateTree}
-use Rattle.engine.specs.Step.{nextOf, bytesOf, memoryIn, awaited, CountedIn}
+use Rattle.engine_words.specs.Status.{statusOf, CountedIn}
+use Rattle.engine.specs.Laws.State.{stateTree}
+use Rattle.engine.specs.Step.{nextOf, bytesOf, memoryIn, awaited}
 use Rattle.engine.specs.declared.NextStep.the-variants as N
 use Rattle.session_rules.specs.Admits.{refusal, refusalNumber}
 use Rattle.session_phase.specs.Phase.{loss, isOpen, phaseEnded}

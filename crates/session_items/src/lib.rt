@@ -19,7 +19,7 @@ fn arg_at(ws: &[u32], at: usize, k: usize) -> u32
     requires { ⌜ (at ≤ length (now ws)) × (k ≤ 7) ⌝ }
     ensures { λ r. ⌜ r ≡ arg (now (ws .entry)) at k ⌝ }
 {
-    call::word_at(ws, at + (3 + k))
+    call_bytes::word_at(ws, at + (3 + k))
 }
 
 fn function_at(ws: &[u32], at: usize) -> Function
@@ -123,5 +123,5 @@ pub fn call_at(ws: &[u32], at: usize) -> Listed
     if ws.len() <= at {
         return Listed::Nothing;
     }
-    by_number(call::word_at(ws, at), ws, at)
+    by_number(call_bytes::word_at(ws, at), ws, at)
 }

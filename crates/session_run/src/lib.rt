@@ -64,7 +64,7 @@ fn note_result(results: &mut [u64], i: usize, e: CallEnding)
 fn act_at(acts: &[u32], at: usize) -> Act
     ensures { λ r. ⌜ r ≡ actNow (actsOf (drop at (now (acts .entry)))) ⌝ }
 {
-    target_line::act_of(call::word_at(acts, at))
+    target_line::act_of(call_bytes::word_at(acts, at))
 }
 
 // The place of the act after that.
@@ -210,11 +210,11 @@ pub fn run_list(
                 return list_ran(last, i);
             }
             Listed::Call(c) => {
-                let size = fitting(call::word_at(items, at + 2), bytes.len() - place);
+                let size = fitting(call_bytes::word_at(items, at + 2), bytes.len() - place);
                 last = run_call(
                     last.session,
                     c,
-                    call::word_at(items, at + 1),
+                    call_bytes::word_at(items, at + 1),
                     last.target,
                     acts,
                     last.at,

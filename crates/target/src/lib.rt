@@ -1,11 +1,12 @@
 // The model target of ADIv5.2, a debug port and a MEM-AP over lent memory: its types, its memory, and the register that a request
-// reaches. `target_ports` has the accesses to registers, `target_line` a transport call to the target and over the line.
+// reaches. `target_dp` and `target_ap` have the accesses to registers, `target_line` a transport call to the target and over the line.
 ghost use mathlib.Core.Path.{_≡_};
 ghost use mathlib.Core.Bool.{Bool};
 ghost use Prim.Native.Nat.{_+_, _-_, _*_, _/_, _%_, _≤_, _<_};
 ghost use lib.ListN.{length};
 ghost use Rattle.target.specs.Memory.{byteAt, inMemory, load, store, loaded, stored};
 ghost use Rattle.target.specs.Decode.{bankOf, registerOf};
+ghost use Rattle.target.specs.DebugPort.{done};
 ghost use Rattle.target.specs.Laws.Decode.{registerAt};
 use wire::Answer;
 
@@ -225,4 +226,14 @@ pub fn decode(request: u8, select: u32) -> Register
 {
     let b = bank(request, select);
     register_at(wide(request % 16) * 0x1000 + b)
+}
+
+// An access that was done.
+pub fn did(value: u32, target: Target) -> Done
+    ensures { λ r. ⌜ r ≡ done value target ⌝ }
+{
+    Done {
+        value: value,
+        target: target,
+    }
 }

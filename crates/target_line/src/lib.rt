@@ -66,8 +66,8 @@ fn transfer_to(t: Target, request: u8, word: u32, mem: &mut [u8]) -> Delivered
         };
     }
     match reg {
-        Register::Dp(r) => answered(target_ports::reach_dp(r, t, word)),
-        Register::Ap(r) => answered(target_ports::reach_ap(r, t, word, mem)),
+        Register::Dp(r) => answered(target_dp::reach_dp(r, t, word)),
+        Register::Ap(r) => answered(target_ap::reach_ap(r, t, word, mem)),
     }
 }
 

@@ -1,4 +1,3 @@
-pub mod Count
 pub mod Rows
-pub mod Flight
+pub mod Told
 pub mod Numbers

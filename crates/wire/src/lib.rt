@@ -2,18 +2,11 @@
 // SPDX-License-Identifier: Apache-2.0
 // Ported from arm-debug/src/lib.rs of ciniml/rust-dap.
 
-// Transport calls and their answers, what the engine remembers, and one transfer with its WAIT retries.
+// Transport calls and their answers, errors and outcomes, and what the engine remembers; each by number where it stands in a word.
 ghost use mathlib.Core.Path.{_≡_};
 ghost use Prim.Native.Nat.{_%_, _≤_};
-ghost use lib.Dec.{eqb};
-ghost use lib.ListN.{getD};
-ghost use Rattle.wire.specs.declared.Outcome.{Outcome};
-ghost use Rattle.wire.specs.declared.Went.the-variants.{Again};
 ghost use Rattle.wire.specs.Bytes.{patternNo, patternAt, patternBytes, padded};
-ghost use Rattle.wire.specs.Wire.{Wire, Memory, follow};
-ghost use Rattle.wire.specs.Transfer.{raw, rawOutcome};
-ghost use Rattle.wire.specs.Count.{Counted};
-ghost use Rattle.wire.specs.Laws.Flight.{errorOf, outcomeOf, Sized, Trying, transferOf, transferTree, begun, begunRaw, aborts, waits, answered, ignoring, Goes};
+ghost use Rattle.wire.specs.Laws.Told.{errorOf, outcomeOf};
 
 // What the engine remembers of the target. SELECT 0xFFFFFFFF means unknown.
 pub struct Remembered {
@@ -231,78 +224,6 @@ pub fn outcome_at(number: u32, value: u32) -> Outcome
     Outcome::Failed(error_at(number, value))
 }
 
-// The words of a transport call in flight, which its owner lends and which are updated in place.
-// MODE: a try of a transfer, the ABORT after it, whose answer is ignored, or a call that is no transfer.
-const MODE: usize = 0;
-
-// How often the call was made, this time included.
-const TRIES: usize = 1;
-
-// The transport call: its kind, a byte and a word; of `swj_pins` another byte too.
-const KIND: usize = 2;
-
-const BYTE: usize = 3;
-
-const WORD: usize = 4;
-
-const OTHER: usize = 5;
-
-// What the call fails with after its ABORT: the kind of the error, and the ack.
-const ERROR: usize = 5;
-
-const ACK: usize = 6;
-
-// The kinds of transport calls.
-const TRANSFER: u32 = 0;
-
-const CONNECT: u32 = 1;
-
-const SEQUENCE: u32 = 2;
-
-const PINS: u32 = 3;
-
-const WRITE_BITS: u32 = 4;
-
-const OUTPUT_ENABLE: u32 = 5;
-
-const TRYING: u32 = 0;
-
-const ABORTING: u32 = 1;
-
-const RAW: u32 = 2;
-
-// A transfer is tried so often: the first time and the Rust's 64 retries.
-const MOST: u32 = 65;
-
-pub enum Went {
-    Again,
-    Ended(Outcome),
-}
-
-// A transfer: WAIT repeats it, at most 64 times.
-pub fn begin(t: &mut [u32; 7], request: u32, word: u32)
-    ensures { λ _. ⌜ now (t .exit) ≡ begun request word (now (t .entry)) ⌝ }
-{
-    t[MODE] = TRYING;
-    t[TRIES] = 1;
-    t[KIND] = TRANSFER;
-    t[BYTE] = request;
-    t[WORD] = word;
-}
-
-// A transport call that is made once, with no ABORT after an error.
-fn once(t: &mut [u32; 7], kind: u32, byte: u32, other: u32, word: u32)
-    ensures { λ _. ⌜ now (t .exit) ≡ begunRaw kind byte other word (now (t .entry)) ⌝ }
-{
-    let only = 1;
-    t[MODE] = RAW;
-    t[TRIES] = only;
-    t[KIND] = kind;
-    t[BYTE] = byte;
-    t[WORD] = word;
-    t[OTHER] = other;
-}
-
 // The fixed sequences by number.
 pub fn pattern_no(p: Pattern) -> u32
     ensures { λ r. ⌜ (r ≡ patternNo p) × (r ≤ 7) × (patternAt r ≡ p) ⌝ }
@@ -319,101 +240,6 @@ pub fn pattern_no(p: Pattern) -> u32
     }
 }
 
-// A transport call that is made once, with no ABORT after an error.
-pub fn begin_raw(t: &mut [u32; 7], c: Call)
-    ensures { λ _. ⌜ (Sized (now (t .entry))
-        → ((m : Memory) (k : Outcome → Wire) → raw m c k ≡ transferTree m (transferOf (now (t .exit))) k)
-        × Sized (now (t .exit)) × Counted (now (t .exit))) ⌝ }
-{
-    match c {
-        Call::Transfer { request, word } => once(t, TRANSFER, wide(request), 0, word),
-        Call::Connect => once(t, CONNECT, 0, 0, 0),
-        Call::Sequence(p) => once(t, SEQUENCE, pattern_no(p), 0, 0),
-        Call::Pins {
-            output,
-            select,
-            wait_us,
-        } => once(t, PINS, wide(output), wide(select), wait_us),
-        Call::WriteBits { bits, word } => once(t, WRITE_BITS, wide(bits), 0, word),
-        Call::OutputEnable => once(t, OUTPUT_ENABLE, 0, 0, 0),
-    }
-}
-
-// The ABORT that clears the sticky errors is in flight, and then the call fails with the error.
-fn abort(t: &mut [u32; 7], error: u32, ack: u32) -> Went
-    ensures { λ r. ⌜ (r ≡ Again) × (now (t .exit) ≡ aborts error ack (now (t .entry))) ⌝ }
-{
-    let made = 1;
-    t[MODE] = ABORTING;
-    t[TRIES] = made;
-    t[KIND] = TRANSFER;
-    t[BYTE] = 0;
-    t[WORD] = 0x1E;
-    t[ERROR] = error;
-    t[ACK] = ack;
-    Went::Again
-}
-
-// The error that the call fails with after its ABORT.
-fn error_of(t: &[u32; 7]) -> ArmError
-    ensures { λ r. ⌜ r ≡ transferOf (now (t .entry)) .error ⌝ }
-{
-    error_at(t[ERROR], t[ACK])
-}
-
-// WAIT: the same call once more, or no more. Whatever count it finds, it leaves none above 65.
-fn waited(t: &mut [u32; 7]) -> Went
-    ensures { λ r. ⌜ (Trying (now (t .entry)) → Goes (waits (now (t .entry))) r (now (t .exit))) ⌝ }
-{
-    let tries = t[TRIES];
-    if MOST <= tries {
-        return Went::Ended(Outcome::Failed(ArmError::Wait));
-    }
-    t[TRIES] = tries + 1;
-    Went::Again
-}
-
-// What a try of a transfer does with an answer.
-fn tried(t: &mut [u32; 7], a: Answer) -> Went
-    ensures { λ r. ⌜ (Trying (now (t .entry)) → Goes (answered (now (t .entry)) a) r (now (t .exit))) ⌝ }
-{
-    match a {
-        Answer::Good(v) => Went::Ended(Outcome::Value(v)),
-        Answer::SwdError(ack) => {
-            if ack == 2 {
-                return waited(t);
-            }
-            abort(t, 0, wide(ack))
-        }
-        Answer::NotSupported => abort(t, 2, 0),
-        Answer::Other => abort(t, 6, 0),
-    }
-}
-
-// What a call that is no transfer comes to.
-fn raw_outcome(a: Answer) -> Outcome
-    ensures { λ r. ⌜ r ≡ rawOutcome a ⌝ }
-{
-    match a {
-        Answer::Good(v) => Outcome::Value(v),
-        Answer::SwdError(ack) => Outcome::Failed(ArmError::Transfer(ack)),
-        Answer::NotSupported => Outcome::Failed(ArmError::NotSupported),
-        Answer::Other => Outcome::Failed(ArmError::Internal),
-    }
-}
-
-// What a transport call in flight does with an answer.
-pub fn transfer_step(t: &mut [u32; 7], a: Answer) -> Went
-    ensures { λ r. ⌜ (Sized (now (t .entry)) → Goes (λ m k. follow (transferTree m (transferOf (now (t .entry))) k) a) r (now (t .exit))) ⌝ }
-{
-    let mode = t[MODE];
-    match mode {
-        TRYING => tried(t, a),
-        ABORTING => Went::Ended(Outcome::Failed(error_of(t))),
-        _ => Went::Ended(raw_outcome(a)),
-    }
-}
-
 pub fn pattern_at(n: u32) -> Pattern
     ensures { λ r. ⌜ r ≡ patternAt n ⌝ }
 {
@@ -427,59 +253,4 @@ pub fn pattern_at(n: u32) -> Pattern
         6 => Pattern::AlertIdle,
         _ => Pattern::SwdActivation,
     }
-}
-
-// The transport call that is in flight.
-pub fn due(t: &[u32; 7]) -> Call
-    ensures { λ c. ⌜ c ≡ transferOf (now (t .entry)) .call ⌝ }
-{
-    let kind = t[KIND];
-    let byte = t[BYTE];
-    let other = t[OTHER];
-    let word = t[WORD];
-    match kind {
-        TRANSFER => Call::Transfer {
-            request: (byte % 256) as u8,
-            word: word,
-        },
-        CONNECT => Call::Connect,
-        SEQUENCE => Call::Sequence(pattern_at(byte)),
-        PINS => Call::Pins {
-            output: (byte % 256) as u8,
-            select: (other % 256) as u8,
-            wait_us: word,
-        },
-        WRITE_BITS => Call::WriteBits {
-            bits: (byte % 256) as u8,
-            word: word,
-        },
-        _ => Call::OutputEnable,
-    }
-}
-
-// Whether the call in flight is a transfer, and then its request and its word.
-pub fn is_transfer(t: &[u32; 7]) -> bool
-    ensures { λ r. ⌜ r ≡ eqb (getD (now (t .entry)) 2 0) 0 ⌝ }
-{
-    t[KIND] == TRANSFER
-}
-
-pub fn request(t: &[u32; 7]) -> u8
-    ensures { λ r. ⌜ r ≡ getD (now (t .entry)) 3 0 % 256 ⌝ }
-{
-    let byte = t[BYTE];
-    (byte % 256) as u8
-}
-
-pub fn word(t: &[u32; 7]) -> u32
-    ensures { λ r. ⌜ r ≡ getD (now (t .entry)) 4 0 ⌝ }
-{
-    t[WORD]
-}
-
-// Whether the ABORT is in flight, whose answer is ignored.
-pub fn is_aborting(t: &[u32; 7]) -> bool
-    ensures { λ r. ⌜ r ≡ ignoring (transferOf (now (t .entry)) .mode) ⌝ }
-{
-    t[MODE] == ABORTING
 }

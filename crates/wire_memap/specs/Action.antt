@@ -3,7 +3,7 @@
 use Prim.Native.Nat.{ℕ}
 pub use mathlib.Core.Bool.{cond}
 use Rattle.wire.specs.Wire.{Wire, Memory}
-use Rattle.wire.specs.Transfer.{transfer}
+use Rattle.wire_transfer.specs.Transfer.{transfer}
 use Rattle.wire.specs.declared.Remembered.{Remembered}
 use Rattle.wire.specs.declared.Outcome.{Outcome}
 use Rattle.wire.specs.declared.Outcome.the-variants.{Value, Failed}

@@ -1,6 +1,6 @@
 -- The operations that calls are made of.
 use mathlib.Core.Bool.{Bool, true, false}
-use Rattle.wire.specs.Transfer.{raw}
+use Rattle.wire_transfer.specs.Transfer.{raw}
 use Rattle.wire_memap.specs.Action.{Action}
 use Rattle.wire_memap.specs.Ports.{dpRead, dpWrite, apRead, apWrite}
 use Rattle.wire_memap.specs.Words.{readWord, writeWord, readWords, writeWords}

@@ -1,9 +1,10 @@
 // Transport calls, answers and endings as numbers: what a step answers with, and what lists of numbers hold.
 ghost use mathlib.Core.Path.{_≡_};
-ghost use Prim.Native.Nat.{_+_, _/_, min};
-ghost use lib.ListN.{take, set};
+ghost use Prim.Native.Nat.{_+_, _/_, _%_, min};
+ghost use lib.Dec.{eqb};
+ghost use lib.ListN.{take, set, getD};
 ghost use Rattle.wire.specs.Bytes.{handed, padded, leBytes};
-ghost use Rattle.wire.specs.Laws.Flight.{transferOf};
+ghost use Rattle.wire_transfer.specs.Laws.Flight.{transferOf};
 ghost use Rattle.wire_numbers.specs.Results.{errorNumber, errorValue, resultOf};
 ghost use Rattle.wire_numbers.specs.Numbers.{numbersOf};
 ghost use Rattle.wire_numbers.specs.Log.{answerAt, answerOf, codeOf, callOf};
@@ -12,6 +13,7 @@ use wire::ArmError;
 use wire::Call;
 use wire::Outcome;
 use wire::Pattern;
+use wire_transfer::words::*;
 
 // A transport call as numbers. `kind` is the letter of a listing: T, C, Q, P, B or O; `word` is T's data or P's wait;
 // `len` bytes are handed over.
@@ -341,18 +343,66 @@ fn put(log: &mut [u64], i: u32, x: u64)
     }
 }
 
+// The transport call that is in flight.
+pub fn due(t: &[u32; 7]) -> Call
+    ensures { λ c. ⌜ c ≡ transferOf (now (t .entry)) .call ⌝ }
+{
+    let kind = t[KIND];
+    let byte = t[BYTE];
+    let other = t[OTHER];
+    let word = t[WORD];
+    match kind {
+        TRANSFER => Call::Transfer {
+            request: (byte % 256) as u8,
+            word: word,
+        },
+        CONNECT => Call::Connect,
+        SEQUENCE => Call::Sequence(wire::pattern_at(byte)),
+        PINS => Call::Pins {
+            output: (byte % 256) as u8,
+            select: (other % 256) as u8,
+            wait_us: word,
+        },
+        WRITE_BITS => Call::WriteBits {
+            bits: (byte % 256) as u8,
+            word: word,
+        },
+        _ => Call::OutputEnable,
+    }
+}
+
+// Whether the call in flight is a transfer, and then its request and its word.
+fn is_transfer(t: &[u32; 7]) -> bool
+    ensures { λ r. ⌜ r ≡ eqb (getD (now (t .entry)) 2 0) 0 ⌝ }
+{
+    t[KIND] == TRANSFER
+}
+
+fn request(t: &[u32; 7]) -> u8
+    ensures { λ r. ⌜ r ≡ getD (now (t .entry)) 3 0 % 256 ⌝ }
+{
+    let byte = t[BYTE];
+    (byte % 256) as u8
+}
+
+fn word(t: &[u32; 7]) -> u32
+    ensures { λ r. ⌜ r ≡ getD (now (t .entry)) 4 0 ⌝ }
+{
+    t[WORD]
+}
+
 // The transport call in flight, noted at place i of the log. Most are transfers, whose number is made at once.
 pub fn note_due(log: &mut [u64], i: u32, t: &[u32; 7])
     ensures { λ _. ⌜ (now (log .exit) ≡ set (now (log .entry)) i (codeOf (transferOf (now (t .entry)) .call)))
         × (callOf (codeOf (transferOf (now (t .entry)) .call)) ≡ transferOf (now (t .entry)) .call) ⌝ }
 {
-    if wire::is_transfer(t) {
-        let request = wire::request(t);
-        let word = wire::word(t);
+    if is_transfer(t) {
+        let request = request(t);
+        let word = word(t);
         put(log, i, (request as u64) * 0x100000000 + (word as u64));
         return;
     }
-    put(log, i, code_of(wire::due(t)));
+    put(log, i, code_of(due(t)));
 }
 
 // The transport call that a number of the log stands for.

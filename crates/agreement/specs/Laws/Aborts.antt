@@ -6,7 +6,7 @@ use mathlib.Core.List.{List, [], _∷_}
 use mathlib.Core.Path.{_≡_, refl, ap}
 use lib.Dec.{eqb}
 use Rattle.wire.specs.Wire.{Wire, Memory, done, ask, tell, play}
-use Rattle.wire.specs.Transfer.{tries, transfer, afterAnswer, afterAck, raw}
+use Rattle.wire_transfer.specs.Transfer.{tries, transfer, afterAnswer, afterAck, raw}
 use Rattle.wire.specs.declared.Call.{Call}
 use Rattle.wire.specs.declared.Call.the-variants as C
 use Rattle.wire.specs.declared.Answer.{Answer}

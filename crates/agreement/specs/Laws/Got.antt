@@ -8,7 +8,7 @@ use lib.ListN.{length, getD, drop, length-drop}
 use lib.Seq.{getD-drop}
 use Rattle.wire.specs.Bytes.{leBytes, leWord}
 use Rattle.target.specs.declared.Byte.the-variants.{Value}
-use Rattle.call.specs.Bytes.{storeWords, storePart, patchWord, fromPlace}
+use Rattle.call_bytes.specs.Bytes.{storeWords, storePart, patchWord, fromPlace}
 use Rattle.agreement.specs.Demand3.{Bytes}
 use Rattle.agreement.specs.Laws.WordBytes.{word-bytes}
 use Rattle.agreement.specs.Laws.Bytewise.{byteIn, byte-in}

@@ -8,7 +8,7 @@ use native.Mathlib.Omega.{arith}
 use lib.ListN.{length, getD, set, take, drop, length-set, length-append, length-drop, List·getD-append, List·getD-eq-default}
 use lib.Seq.{length-sets, getD-set-other, getD-set-same, getD-append-add, getD-take, getD-drop, length-take-le}
 use Rattle.wire.specs.Bytes.{leBytes, putWord, leWord}
-use Rattle.call.specs.Bytes.{storeWords, storePart, loadWords, patchBytes, patchWord}
+use Rattle.call_bytes.specs.Bytes.{storeWords, storePart, loadWords, patchBytes, patchWord}
 use Rattle.agreement.specs.Demand3.{Bytes}
 use Rattle.agreement.specs.Laws.WordBytes.{word-bytes, put-before, put-within}
 

@@ -8,7 +8,7 @@ use lib.Dec.{eqb}
 use borrow.Author.Tests.{ne-eqb}
 use Rattle.session_phase.specs.Laws.Phase.{or-none}
 use Rattle.wire.specs.Wire.{Wire, Memory}
-use Rattle.wire.specs.Transfer.{clearStickyErrors, afterAnswer, tries, transfer, raw, rawOutcome}
+use Rattle.wire_transfer.specs.Transfer.{clearStickyErrors, afterAnswer, tries, transfer, raw, rawOutcome}
 use Rattle.wire.specs.declared.Call.{Call}
 use Rattle.wire.specs.declared.Call.the-variants as C
 use Rattle.wire.specs.declared.Answer.the-variants.{SwdError}

@@ -10,7 +10,7 @@ use Rattle.wire.specs.Bytes.{putWord, leWord}
 use Rattle.wire.specs.Wire.{Memory}
 use Rattle.wire.specs.declared.Outcome.the-variants.{Value, Failed}
 use Rattle.wire_memap.specs.Ops.{perform}
-use Rattle.call.specs.Bytes.{loadWords, patchWord}
+use Rattle.call_bytes.specs.Bytes.{loadWords, patchWord}
 use Rattle.call.specs.Job.{Job, exec, return, keep, just, _>>_}
 use Rattle.call.specs.declared.Change.the-variants as C
 use Rattle.wire_memap.specs.declared.Op.the-variants as O

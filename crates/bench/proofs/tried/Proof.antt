@@ -1,5 +1,5 @@
 -- A value is tried as a word of a run, and then as that of any access.
-use Rattle.engine.specs.Laws.Step.{tries-none}
+use Rattle.engine_words.specs.Laws.Step.{tries-none}
 use Rattle.bench.specs.Laws.Steps.{tried-once, tried-again}
 use borrow.Author.Needs.{needs}
 use Rattle.bench.proofs.tried.Statement.{statement}

@@ -13,8 +13,9 @@ use Rattle.wire_numbers.specs.Laws.Log.{good-answer}
 use Rattle.call.specs.Change.{fresh}
 use Rattle.engine_calls.specs.Calls.{lent, callTree}
 use Rattle.engine_calls.specs.declared.EngineCall.{EngineCall}
-use Rattle.engine.specs.Laws.State.{running, CallSized}
-use Rattle.engine.specs.Laws.Step.{LentIn, StartedIn, SteppedIn, TriesIn, stepped-from}
+use Rattle.engine_words.specs.Status.{running}
+use Rattle.engine_words.specs.Laws.State.{CallSized}
+use Rattle.engine_words.specs.Laws.Step.{LentIn, StartedIn, SteppedIn, TriesIn, stepped-from}
 
 -- the call x is started on a new engine
 pub record BegunIn (x : EngineCall) (r : Bool) (t₀ m₀ c₀ row₀ words₀ b₀ t m c row words b : List ℕ) : Type 0 where

@@ -1,5 +1,5 @@
 -- In each arm the number is known, and the table of phases computes at it. A number that is none of them is past its end.
-use Rattle.call.specs.Laws.Rows.{past-rows}
+use Rattle.wire.specs.Laws.Rows.{past-rows}
 use Rattle.call_connect.specs.Laws.After.{phases}
 use borrow.Author.Needs.{needs}
 use Rattle.call_connect.proofs.unpack.Statement.{statement}

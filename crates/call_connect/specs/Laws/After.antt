@@ -14,7 +14,7 @@ use Rattle.wire.specs.declared.Outcome.the-variants.{Value, Failed}
 use Rattle.wire_memap.specs.declared.Op.the-variants as O
 use Rattle.wire_memap.specs.Ports.{DPIDR, CTRL-STAT, SELECT}
 use Rattle.call.specs.Job.{Job, op, _>>=_, _>>_, return, fail, keeping, dpWrite}
-use Rattle.call.specs.declared.At.{At}
+use Rattle.call_at.specs.declared.At.{At}
 use Rattle.call.specs.declared.Change.the-variants as C
 use Rattle.call_connect.specs.Connect.{
   parity,

@@ -3,14 +3,13 @@ use Prim.Native.Nat.{ℕ, _+_, _-_, _*_, _/_, _%_}
 use mathlib.Core.Bool.{Bool, true, false, cond}
 use mathlib.Core.List.{List, [], _∷_}
 use lib.Dec.{eqb}
-use lib.ListN.{getD}
-use Rattle.wire.specs.Laws.Flight.{outcomeOf}
 use Rattle.wire.specs.declared.ArmError.{ArmError}
 use Rattle.wire.specs.declared.Outcome.{Outcome}
 use Rattle.wire.specs.declared.Outcome.the-variants.{Value, Failed}
 use Rattle.call.specs.Job.{Job, ends, attempt, orFail, _>>=_, _>>_, return, fail, keeping, readWord, writeWord}
-use Rattle.call.specs.declared.At.{At}
+use Rattle.call_at.specs.declared.At.{At}
 use Rattle.call.specs.declared.Change.the-variants as C
+use Rattle.call_core_at.specs.Laws.At.{coreAtOf}
 use Rattle.call_core.specs.Cortex.{DHCSR, DCRDR, DBGKEY, C-DEBUGEN, C-HALT, S-REGRDY, S-HALT, status, stands, R0}
 use Rattle.call_core.specs.Core.{POLLS, waitStatus, readCoreReg, storeCoreReg}
 use Rattle.call_core.specs.Function.{
@@ -26,20 +25,20 @@ use Rattle.call_core.specs.Function.{
   finishFunction,
   BKPT-TWICE,
 }
-use Rattle.call_core.specs.declared.Wait.{Wait}
-use Rattle.call_core.specs.declared.Wait.the-variants as W
-use Rattle.call_core.specs.declared.AccessAt.{AccessAt}
-use Rattle.call_core.specs.declared.AccessAt.the-variants as A
-use Rattle.call_core.specs.declared.Search.{Search}
-use Rattle.call_core.specs.declared.FindStep.{FindStep}
-use Rattle.call_core.specs.declared.FindStep.the-variants as F
-use Rattle.call_core.specs.declared.Plan.{Plan}
-use Rattle.call_core.specs.declared.Then.{Then}
-use Rattle.call_core.specs.declared.Then.the-variants as T
-use Rattle.call_core.specs.declared.RunStep.{RunStep}
-use Rattle.call_core.specs.declared.RunStep.the-variants as R
-use Rattle.call_core.specs.declared.CoreAt.{CoreAt}
-use Rattle.call_core.specs.declared.CoreAt.the-variants as P
+use Rattle.call_core_at.specs.declared.Wait.{Wait}
+use Rattle.call_core_at.specs.declared.Wait.the-variants as W
+use Rattle.call_core_at.specs.declared.AccessAt.{AccessAt}
+use Rattle.call_core_at.specs.declared.AccessAt.the-variants as A
+use Rattle.call_core_at.specs.declared.Search.{Search}
+use Rattle.call_core_at.specs.declared.FindStep.{FindStep}
+use Rattle.call_core_at.specs.declared.FindStep.the-variants as F
+use Rattle.call_core_at.specs.declared.Plan.{Plan}
+use Rattle.call_core_at.specs.declared.Then.{Then}
+use Rattle.call_core_at.specs.declared.Then.the-variants as T
+use Rattle.call_core_at.specs.declared.RunStep.{RunStep}
+use Rattle.call_core_at.specs.declared.RunStep.the-variants as R
+use Rattle.call_core_at.specs.declared.CoreAt.{CoreAt}
+use Rattle.call_core_at.specs.declared.CoreAt.the-variants as P
 use Rattle.call_core.specs.declared.Function.{Function}
 
 -- Calls 15 to 21: an access to the core
@@ -170,50 +169,6 @@ stopsAt (P.Over unmasked waited) e = fail e
 abbrev pub phaseAfter : CoreAt → Outcome → Job
 phaseAfter p (Value v) = goesOn p v
 phaseAfter p (Failed e) = stopsAt p e
-
--- What the numbers of a call in flight say
-
-abbrev pub accesses : ℕ → List AccessAt
-accesses n =
-    A.Whole ∷ A.Halted ∷ A.Asked W.Halt ∷ A.Asked W.Read ∷ A.Asked W.Write ∷ A.Poll W.Halt n ∷ A.Poll W.Read n ∷ A.Poll W.Write n ∷ []
-
-abbrev pub accessOf : ℕ → ℕ → AccessAt
-accessOf kind n = getD (accesses n) kind (A.Data (n % 256))
-
-abbrev pub finds : List FindStep
-finds = F.Table ∷ F.Entry ∷ F.Low ∷ []
-
-abbrev pub findOf : ℕ → FindStep
-findOf n = getD finds n F.High
-
-abbrev pub runs : List RunStep
-runs = R.Planted ∷ R.Masked ∷ R.Released ∷ []
-
-abbrev pub runOf : ℕ → RunStep
-runOf n = getD runs n R.Look
-
-abbrev pub planOf : At → Plan
-planOf at = record { trampoline = at .c; finish = eqb (at .e % 2) 1; polls = at .d }
-
-abbrev pub thens : At → List Then
-thens at = T.End ∷ T.Save (at .b) (planOf at) ∷ T.Set (at .b) (planOf at) ∷ T.Result ∷ []
-
-abbrev pub thenOf : At → Then
-thenOf at = getD (thens at) (at .step / 8 % 8) (T.Restore (at .b) (at .c))
-
-abbrev pub searchOf : At → Search
-searchOf at = record { want = at .b; table = at .c % 65536; left = at .d % 65536 }
-
-abbrev pub phases : At → List CoreAt
-phases at =
-    P.Access (accessOf (at .e / 2) (at .a)) (thenOf at)
-    ∷ P.Find (findOf (at .e)) (at .a) (searchOf at)
-    ∷ P.Run (runOf (at .e / 2)) (at .a) (planOf at)
-    ∷ P.Wait (at .a)
-    ∷ []
-
-abbrev pub coreAtOf : At → CoreAt
-coreAtOf at = getD (phases at) (at .step % 8) (P.Over (eqb (at .e) 1) (outcomeOf (at .b) (at .a)))
 
 abbrev pub coreAfter : At → Outcome → Job
 coreAfter at o = phaseAfter (coreAtOf at) o

@@ -1,5 +1,5 @@
 -- In each arm the number is known, and the table of phases computes at it. A number that is none of them is past its end.
-use Rattle.call.specs.Laws.Rows.{past-rows, at-row}
+use Rattle.wire.specs.Laws.Rows.{past-rows, at-row}
 use Rattle.call_fpb.specs.Laws.After.{phases}
 use borrow.Author.Needs.{needs}
 use Rattle.call_fpb.proofs.unpack.Statement.{statement}

@@ -10,7 +10,7 @@ use Rattle.wire.specs.declared.Outcome.{Outcome}
 use Rattle.wire.specs.declared.Outcome.the-variants.{Value, Failed}
 use Rattle.wire_memap.specs.declared.Op.the-variants as O
 use Rattle.call.specs.Job.{Job, op, _>>=_, _>>_, fail, writeWord}
-use Rattle.call.specs.declared.At.{At}
+use Rattle.call_at.specs.declared.At.{At}
 use Rattle.call_fpb.specs.Fpb as fpb
 use Rattle.call_fpb.specs.Breakpoint.{
   yes,

@@ -1,5 +1,5 @@
 -- In each arm the step is known, and the table computes at it. A step that is none of them is past the table's end.
-use Rattle.call.specs.Laws.Rows.{past-rows}
+use Rattle.wire.specs.Laws.Rows.{past-rows}
 use Rattle.call_memory.specs.Laws.After.{phases}
 use borrow.Author.Needs.{needs}
 use Rattle.call_memory.proofs.unpack.Statement.{statement}

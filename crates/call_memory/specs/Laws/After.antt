@@ -7,7 +7,7 @@ use Rattle.wire.specs.declared.Outcome.{Outcome}
 use Rattle.wire.specs.declared.Outcome.the-variants.{Value, Failed}
 use Rattle.wire_memap.specs.declared.Op.the-variants as O
 use Rattle.call.specs.Job.{Job, _>>_, return, fail, just, keeping}
-use Rattle.call.specs.declared.At.{At}
+use Rattle.call_at.specs.declared.At.{At}
 use Rattle.call.specs.declared.Change.the-variants as C
 use Rattle.call_memory.specs.Memory.{memFrom}
 use Rattle.call_memory.specs.declared.Mem.{Mem}

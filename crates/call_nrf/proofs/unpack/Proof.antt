@@ -1,5 +1,5 @@
 -- In each arm the number is known, and the table computes at it. A number that is none of them is past its end.
-use Rattle.call.specs.Laws.Rows.{past-rows, at-row}
+use Rattle.wire.specs.Laws.Rows.{past-rows, at-row}
 use Rattle.call_nrf.specs.Laws.After.{phases}
 use borrow.Author.Needs.{needs}
 use Rattle.call_nrf.proofs.unpack.Statement.{statement}

@@ -11,7 +11,7 @@ use Rattle.wire.specs.declared.Outcome.the-variants.{Value, Failed}
 use Rattle.wire_memap.specs.declared.Op.{Op}
 use Rattle.wire_memap.specs.declared.Op.the-variants as O
 use Rattle.call.specs.Job.{Job, op, ends, _>>_, return, fail, just, apWrite, writeWord}
-use Rattle.call.specs.declared.At.{At}
+use Rattle.call_at.specs.declared.At.{At}
 use Rattle.call_nrf.specs.Nrf52 as nrf52
 use Rattle.call_nrf.specs.Nrf54 as nrf54
 use Rattle.call_nrf.specs.Nrf.{setApsel, answer, readStatus, outcome, softReset, pollErased, waitReady, runs}

@@ -6,5 +6,6 @@ use Rattle.engine.proofs.over_row.Tie as tie
 
 pub over-row-spec : {M : Type 1} → statement M
 over-row-spec =
-    tie.close (tie.spec (λ c. search needs) (λ c. search needs) (λ c. search needs)
-    (λ c. let a = c .before .before .before .args in over-row-is (a .s .transfer) (a .s .op) (a .s .call) (search (needs, c .before .before .before .good))))
+    tie.close (tie.spec (λ c κs. tt)
+    (λ c. let s = c .before .before .before .before .before .args .s in simp (c .over-row .ensures)
+    (over-row-is (s .transfer) (s .op) (s .call) (search (needs, c .before .before .before .before .before .good)))))

@@ -9,8 +9,9 @@ use lib.Dec.{eqb, ltb}
 use lib.ListN.{getD, set, replicate}
 use Rattle.wire.specs.Bytes.{handed, padded}
 use Rattle.wire.specs.Wire.{Wire, Memory, memoryOf, done, follow}
-use Rattle.wire.specs.Laws.Flight.{outcomeOf, Mode, Transfer, transferOf, flight}
-use Rattle.wire.specs.Laws.Flight as D
+use Rattle.wire.specs.Laws.Told.{outcomeOf}
+use Rattle.wire_transfer.specs.Laws.Flight.{Mode, Transfer, transferOf, flight}
+use Rattle.wire_transfer.specs.Laws.Flight as D
 use Rattle.wire.specs.declared.Answer.{Answer}
 use Rattle.wire.specs.declared.Call.{Call}
 use Rattle.wire.specs.declared.Outcome.{Outcome}
@@ -23,9 +24,11 @@ use Rattle.wire_memap.specs.Laws.Flight.{Fits}
 use Rattle.engine_calls.specs.Calls.{lent, callTree}
 use Rattle.engine_calls.specs.declared.EngineCall.{EngineCall}
 use Rattle.wire.specs.declared.Remembered.{Remembered}
-use Rattle.engine.specs.Step.{nextOf, bytesOf, memoryIn, awaited, CountedIn, Steps, Lent, Stepped}
-use Rattle.engine.specs.Laws.State.{Status, Running, Ended, statusAs, statusOf, ownOf, running, CallSized, flightTree, statusTree, wordsTree, stateTree, by-words}
-use Rattle.engine.specs.Laws.Step.{StandsFor, LentIn, StartedIn, SteppedIn}
+use Rattle.engine_words.specs.Status.{statusAs, statusOf, ownOf, running, statusTree, CountedIn}
+use Rattle.engine_words.specs.Laws.State.{CallSized, onRow, flightTree, wordsTree, runs-tree, ends-tree, by-words}
+use Rattle.engine_words.specs.Laws.Step.{StandsFor, LentIn, StartedIn, SteppedIn}
+use Rattle.engine.specs.Step.{nextOf, bytesOf, memoryIn, awaited, Steps, Lent, Stepped}
+use Rattle.engine.specs.Laws.State.{stateTree}
 use Rattle.engine.specs.declared.NextStep.{NextStep}
 use Rattle.engine.specs.declared.NextStep.the-variants as N
 use Rattle.engine.specs.declared.State.{State}
@@ -51,25 +54,19 @@ pub answers-call : (t m c : List ℕ) (x : Call) {n : TransportCall} {bs : List 
     → bs ≡ padded (handed x) → Answers t m c (record { next = N.Make n; state = record { transfer = t; op = m; call = c }; bytes = bs })
 answers-call t m c x {n} {bs} z d h g = record {
   words = refl;
-  tells = λ ws b. subst (λ (w : Wire). Tells w (N.Make n) bs (stands m ws b)) (sym (runs ws b))
+  tells = λ ws b. subst (λ (w : Wire). Tells w (N.Make n) bs (stands m ws b)) (sym (runs-tree t m c ws b z))
       (subst (λ (y : TransportCall). Tells (flightTree t m c ws b) (N.Make y) bs (stands m ws b)) (sym (h ∙ ap numbersOf d))
       (subst (λ (y : List ℕ). Tells (flightTree t m c ws b) (N.Make (numbersOf (transferOf t .call))) y (stands m ws b)) (sym (g ∙ ap (λ (x : Call). padded (handed x)) d))
       (flight-tells (transferOf t .mode) (stands m ws b) (transferOf t) _)));
 }
-  where
-    runs : (ws b : List ℕ) → wordsTree t m c ws b ≡ flightTree t m c ws b
-    runs ws b = ap (λ (x : Bool). statusTree (statusAs x (outcomeOf (getD c 7 0) (getD c 8 0))) (flightTree t m c ws b) (stands m ws b)) z
 
-pub answers-end : (t m c : List ℕ) (o : Outcome) {e : CallEnding} → running c ≡ false → o ≡ outcomeOf (getD c 7 0) (getD c 8 0) → e ≡ resultOf o
+pub answers-end : (t m c : List ℕ) {e : CallEnding} → running c ≡ false → e ≡ resultOf (outcomeOf (getD c 7 0) (getD c 8 0))
     → Answers t m c (record { next = N.Finish e; state = record { transfer = t; op = m; call = c }; bytes = padded [] })
-answers-end t m c o {e} z d h = record {
+answers-end t m c {e} z h = record {
   words = refl;
-  tells = λ ws b. subst (λ (w : Wire). Tells w (N.Finish e) (padded []) (stands m ws b)) (sym (ends ws b))
-      (record { step = ap N.Finish (h ∙ ap resultOf d); hands = refl; memory = refl });
+  tells = λ ws b. subst (λ (w : Wire). Tells w (N.Finish e) (padded []) (stands m ws b)) (sym (ends-tree t m c ws b z))
+      (record { step = ap N.Finish h; hands = refl; memory = refl });
 }
-  where
-    ends : (ws b : List ℕ) → wordsTree t m c ws b ≡ done (stands m ws b) (outcomeOf (getD c 7 0) (getD c 8 0))
-    ends ws b = ap (λ (x : Bool). statusTree (statusAs x (outcomeOf (getD c 7 0) (getD c 8 0))) (flightTree t m c ws b) (stands m ws b)) z
 
 -- what stands for a tree and is answered steps
 pub answered : {w : Wire} {own : Bool} {t m c row₀ words₀ row words b : List ℕ} (x : StepAnswer) → LentIn own w t m c row₀ words₀ row words b → Answers t m c x
@@ -137,6 +134,6 @@ even-own : (n : ℕ) → eqb ((n - n % 2) % 2) 1 ≡ false
 even-own n = ne-eqb ((n - n % 2) % 2) 1 (λ q. omega (arith, q))
 
 pub over-row-is : (t m c : List ℕ) → CallSized c
-    → ((ws b : List ℕ) → wordsTree t m (set c 6 (getD c 6 0 - getD c 6 0 % 2)) ws b ≡ wordsTree t m c ws b) × (ownOf (set c 6 (getD c 6 0 - getD c 6 0 % 2)) ≡ false)
-over-row-is t m = by-words (λ c. ((ws b : List ℕ) → wordsTree t m (set c 6 (getD c 6 0 - getD c 6 0 % 2)) ws b ≡ wordsTree t m c ws b) × (ownOf (set c 6 (getD c 6 0 - getD c 6 0 % 2)) ≡ false))
+    → ((ws b : List ℕ) → wordsTree t m (onRow c) ws b ≡ wordsTree t m c ws b) × (ownOf (onRow c) ≡ false)
+over-row-is t m = by-words (λ c. ((ws b : List ℕ) → wordsTree t m (onRow c) ws b ≡ wordsTree t m c ws b) × (ownOf (onRow c) ≡ false))
     (λ _ _ _ _ _ _ n _ _. ((λ ws b. rw (even-runs n) refl), even-own n))

@@ -2,7 +2,7 @@
 -- group in them, mean the same.
 use Prim.Native.Nat.{ℕ}
 use mathlib.Core.Path.{ap, sym, _∙_}
-use Rattle.call.specs.Laws.Rows.{past-rows}
+use Rattle.wire.specs.Laws.Rows.{past-rows}
 use Rattle.engine_calls.specs.Laws.After.{
   groups,
   byGroup,

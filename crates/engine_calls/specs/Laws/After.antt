@@ -11,9 +11,10 @@ use Rattle.call.specs.Change.{changed}
 use Rattle.call.specs.Job.{Job, ends, exec}
 use Rattle.call.specs.Laws.Asks.{asks, nextJob, exec-keep}
 use Rattle.call.specs.declared.Asks.{Asks}
-use Rattle.call.specs.declared.At.{At}
+use Rattle.call_at.specs.declared.At.{At}
 use Rattle.call_connect.specs.Laws.After as Connect
 use Rattle.call_memory.specs.Laws.After as Mem
+use Rattle.call_core_at.specs.Laws.At.{coreAtOf}
 use Rattle.call_core.specs.Laws.After as Core
 use Rattle.call_fpb.specs.Laws.After as Fpb
 use Rattle.call_nrf.specs.Laws.After as Nrf
@@ -76,7 +77,7 @@ connect-same at = simp (by-32 1 (at .step))
 pub connect-in : (at : At) → callAfter (inGroup 1 at) ≡ Connect.connectAfter at
 connect-in at = ap (λ (k : ℕ). byGroup k (inGroup 1 at)) (group-is 1 (at .step)) ∙ ap Connect.phaseAfter (connect-same at)
 
-core-same : (at : At) → Core.coreAtOf (inGroup 2 at) ≡ Core.coreAtOf at
+core-same : (at : At) → coreAtOf (inGroup 2 at) ≡ coreAtOf at
 core-same at = simp (by-8 2 (at .step), eighths 2 (at .step))
 
 pub core-in : (at : At) → callAfter (inGroup 2 at) ≡ Core.coreAfter at

@@ -6,7 +6,7 @@ use mathlib.Core.Path.{_≡_, refl, _∙_}
 use native.Mathlib.Omega.{arith}
 use lib.ListN.{length}
 use Rattle.wire.specs.Wire.{Wire}
-use Rattle.engine.specs.Laws.Step.{LentIn}
+use Rattle.engine_words.specs.Laws.Step.{LentIn}
 use Rattle.engine_run.specs.Laws.Runs.{Runs, runs-start, runs-turn, still-running, never-running}
 use borrow.Author.Needs.{needs}
 use Rattle.engine_run.proofs.run_on.Statement.{statement}

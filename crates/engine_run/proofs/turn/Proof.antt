@@ -1,6 +1,6 @@
 -- The call in flight is noted, and its answer taken: a value at once where an access follows it, and any other answer by the step.
 use Rattle.wire_numbers.specs.Laws.Log.{good-answer}
-use Rattle.engine.specs.Laws.Step.{stepped-from}
+use Rattle.engine_words.specs.Laws.Step.{stepped-from}
 use Rattle.engine_run.specs.Laws.Runs.{turns-by}
 use borrow.Author.Needs.{needs}
 use Rattle.engine_run.proofs.turn.Statement.{statement}

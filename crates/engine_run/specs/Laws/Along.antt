@@ -8,7 +8,7 @@ use native.Mathlib.Numerals.{add-one}
 use lib.ListN.{length, drop, take, getD, set, drop-of-length-le, length-take}
 use lib.Seq.{drop-cons, getD-take}
 use Rattle.wire.specs.Wire.{Wire, Memory, done, ask, tell, follow, play, Played, made, spent}
-use Rattle.engine.specs.Laws.State.{DueIn}
+use Rattle.engine_words.specs.Laws.State.{DueIn}
 use Rattle.wire.specs.declared.Call.{Call}
 use Rattle.wire.specs.declared.Answer.{Answer}
 use Rattle.wire_numbers.specs.Log.{answerOf, codeOf, callOf}

@@ -7,8 +7,9 @@ use native.Mathlib.Omega.{arith}
 use lib.Dec.{eqb}
 use lib.ListN.{length, set, getD, take, replicate}
 use Rattle.wire.specs.Wire.{Wire, Memory, memoryOf, done, ask, tell, follow, play, Played, Ending, ended, spent}
-use Rattle.wire.specs.Laws.Flight.{outcomeOf, Mode, Transfer, transferOf, flight}
-use Rattle.wire.specs.Laws.Flight as D
+use Rattle.wire.specs.Laws.Told.{outcomeOf}
+use Rattle.wire_transfer.specs.Laws.Flight.{Mode, Transfer, transferOf, flight}
+use Rattle.wire_transfer.specs.Laws.Flight as D
 use Rattle.wire.specs.declared.Outcome.{Outcome}
 use Rattle.wire.specs.declared.Answer.{Answer}
 use Rattle.wire.specs.declared.Call.{Call}
@@ -22,18 +23,12 @@ use Rattle.engine_calls.specs.declared.Frame.{Frame}
 use Rattle.wire.specs.declared.Remembered.{Remembered}
 use Rattle.engine_calls.specs.declared.EngineCall.{EngineCall}
 use Rattle.engine_calls.specs.declared.EngineCall.the-variants as C
-use Rattle.engine.specs.Laws.State.{running, statusAs, flightTree, statusTree, wordsTree, Waits, DueIn, state-due}
-use Rattle.engine.specs.Laws.Step.{StandsFor, LentIn, StartedIn, SteppedIn}
+use Rattle.engine_words.specs.Status.{running}
+use Rattle.engine_words.specs.Laws.State.{wordsTree, runs-tree, ends-tree, Waits, DueIn, due-in}
+use Rattle.engine_words.specs.Laws.Step.{StandsFor, LentIn, StartedIn, SteppedIn}
 use Rattle.engine_run.specs.Laws.Along.{Along, rest, along-none, along-step, rest-none}
 use Rattle.engine_run.specs.Run.{within, Reports, RanAs}
 use Rattle.engine_run.specs.declared.Ran.{Ran}
-
--- the tree of words by their status
-runs-tree : (t m c ws b : List ℕ) → running c ≡ true → wordsTree t m c ws b ≡ flightTree t m c ws b
-runs-tree t m c ws b z = ap (λ (x : Bool). statusTree (statusAs x (outcomeOf (getD c 7 0) (getD c 8 0))) (flightTree t m c ws b) (stands m ws b)) z
-
-ends-tree : (t m c ws b : List ℕ) → running c ≡ false → wordsTree t m c ws b ≡ done (stands m ws b) (outcomeOf (getD c 7 0) (getD c 8 0))
-ends-tree t m c ws b z = ap (λ (x : Bool). statusTree (statusAs x (outcomeOf (getD c 7 0) (getD c 8 0))) (flightTree t m c ws b) (stands m ws b)) z
 
 flies-on : (d : Mode) (s : Memory) (t : Transfer) (k : Outcome → Wire) → Waits (flight d s t k)
 flies-on D.trying s t k = tt
@@ -88,7 +83,7 @@ runs-start own w limit xs row₀ words₀ l t m c row words b h =
 
 -- a call under way has the transport call in flight due
 words-due : (t m c ws b : List ℕ) → running c ≡ true → DueIn (wordsTree t m c ws b) (transferOf t .call)
-words-due t m c ws b z = state-due (record { transfer = t; op = m; call = c }) ws b (subst Waits (sym (runs-tree t m c ws b z)) (flies-on (transferOf t .mode) (stands m ws b) (transferOf t) _))
+words-due t m c ws b z = due-in t m c ws b (subst Waits (sym (runs-tree t m c ws b z)) (flies-on (transferOf t .mode) (stands m ws b) (transferOf t) _))
 
 pub runs-turn : (own : Bool) (w : Wire) (limit : ℕ) (xs row₀ words₀ l₀ : List ℕ) (i : ℕ) (t m c row words b l : List ℕ)
     {t₂ m₂ c₂ row₂ words₂ b₂ l₂ : List ℕ} → running c ≡ true → i < limit → limit ≤ length xs

@@ -8,7 +8,8 @@ use Rattle.wire.specs.Wire.{Wire, follow}
 use Rattle.wire.specs.declared.Answer.{Answer}
 use Rattle.wire.specs.declared.Remembered.{Remembered}
 use Rattle.engine_calls.specs.Calls.{lent, callTree, rowFor}
-use Rattle.engine.specs.Laws.State.{ownOf, stateTree}
+use Rattle.engine_words.specs.Status.{ownOf}
+use Rattle.engine.specs.Laws.State.{stateTree}
 use Rattle.engine.specs.Step.{Steps, Lent, Stepped}
 use Rattle.engine.specs.declared.State.{State}
 use Rattle.engine_calls.specs.declared.EngineCall.{EngineCall}

@@ -6,7 +6,7 @@ use native.Mathlib.Omega.{arith}
 use lib.ListN.{length, take, drop, set, length-take, length-drop, length-append, take-append-drop}
 use Rattle.session_items.specs.Items.{itemThen, itemsFrom}
 use Rattle.wire.specs.Laws.Numbers.{less}
-use Rattle.call.specs.Laws.Byte.{take-min, drop-min}
+use Rattle.call_bytes.specs.Laws.Byte.{take-min, drop-min}
 use Rattle.target.specs.declared.Target.{Target}
 use Rattle.target.specs.declared.Act.{Act}
 use Rattle.session_rules.specs.Session.{Standing}

@@ -14,7 +14,7 @@ use Rattle.engine_calls.specs.Calls.{coreFrame, frameFor, leave, frameLeft}
 use Rattle.engine_calls.specs.declared.Frame.{Frame}
 use Rattle.engine_calls.specs.declared.Frame.the-variants as F
 use Rattle.engine.specs.Step.{memoryIn}
-use Rattle.engine.specs.Laws.State.{Waits}
+use Rattle.engine_words.specs.Laws.State.{Waits}
 use Rattle.target.specs.declared.Target.{Target}
 use Rattle.target.specs.declared.Act.{Act}
 use Rattle.target_line.specs.Talk.{Talk, talk}

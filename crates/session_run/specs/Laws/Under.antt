@@ -6,12 +6,13 @@ use mathlib.Core.Path.{_≡_, refl, sym, subst, _∙_}
 use native.Mathlib.Omega.{arith}
 use lib.ListN.{length}
 use Rattle.wire.specs.Wire.{Wire, done, ask, tell, follow, ended, spent}
-use Rattle.wire.specs.Laws.Flight.{transferOf}
+use Rattle.wire_transfer.specs.Laws.Flight.{transferOf}
 use Rattle.wire.specs.declared.Call.{Call}
 use Rattle.wire.specs.declared.Answer.{Answer}
 use Rattle.wire_numbers.specs.declared.CallEnding.{CallEnding}
 use Rattle.wire_numbers.specs.declared.TransportCall.{TransportCall}
-use Rattle.engine.specs.Laws.State.{stateTree, Waits, DueIn, state-due}
+use Rattle.engine_words.specs.Laws.State.{Waits, DueIn, due-in}
+use Rattle.engine.specs.Laws.State.{stateTree}
 use Rattle.engine.specs.Step.{nextOf, memoryIn}
 use Rattle.engine.specs.declared.NextStep.{NextStep}
 use Rattle.engine.specs.declared.NextStep.the-variants as N
@@ -95,7 +96,7 @@ module _ (s₀ : Session) (c : SessionCall) (budget : ℕ) (buf₀ : List ℕ) (
       let z : _≡_ {A = ℕ} 0 1 = cc in absurd (omega arith)
   under-more i acts s r t mem buf x s′ r′ buf′ n l (walking e w lost wk an) st =
       walking e (follow w A) (lost || lostBy w A)
-      (walk-more (budget - (i + 1)) acts t mem w (dueNow s) (subst (λ (v : Wire). DueIn v (dueNow s)) (sym here) (state-due (s .state) (s .row) buf (subst Waits here due)))
+      (walk-more (budget - (i + 1)) acts t mem w (dueNow s) (subst (λ (v : Wire). DueIn v (dueNow s)) (sym here) (due-in (s .state .transfer) (s .state .op) (s .state .call) (s .row) buf (subst Waits here due)))
       (subst (λ (j : ℕ). Walked i lost (tree s₀ c budget buf₀ acts₀ t₀ mem₀) (heard s₀ c budget buf₀ acts₀ t₀ mem₀) w
       (talk w j acts t mem)) less wk))
       (subst (λ (f : List ℕ). Answers (kindOf c) (lost || lostBy w A) f (follow w A) s′ r′ buf′) kept

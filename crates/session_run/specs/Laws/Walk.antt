@@ -13,7 +13,7 @@ use Rattle.target.specs.declared.Target.{Target}
 use Rattle.target.specs.declared.Act.{Act}
 use Rattle.target_line.specs.Talk.{Talk, talk, actNow, actsThen}
 use Rattle.engine.specs.Step.{memoryIn}
-use Rattle.engine.specs.Laws.State.{Waits, DueIn}
+use Rattle.engine_words.specs.Laws.State.{Waits, DueIn}
 use Rattle.session_phase.specs.Phase.{loss}
 use Rattle.session_rules.specs.Session.{lostIn}
 use Rattle.session.specs.Step.{lostBy}

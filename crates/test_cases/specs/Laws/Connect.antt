@@ -11,7 +11,7 @@ use lib.Dec.{eqb}
 use borrow.Author.Tests.{ne-eqb}
 use Rattle.wire.specs.Laws.Numbers.{less}
 use Rattle.wire.specs.Wire.{Wire, Memory, memoryOf, ask, play, Ending, ended}
-use Rattle.wire.specs.Transfer.{transfer, tries, raw}
+use Rattle.wire_transfer.specs.Transfer.{transfer, tries, raw}
 use Rattle.wire.specs.declared.Call.{Call}
 use Rattle.wire.specs.declared.Call.the-variants as T
 use Rattle.wire.specs.declared.Answer.{Answer}

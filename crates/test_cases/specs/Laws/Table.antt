@@ -7,7 +7,7 @@ use mathlib.Core.Path.{_≡_, refl}
 use native.Mathlib.Omega.{arith}
 use lib.ListN.{replicate}
 use Rattle.wire.specs.Wire.{memoryOf, play, ended}
-use Rattle.wire.specs.Transfer.{transfer, tries, raw}
+use Rattle.wire_transfer.specs.Transfer.{transfer, tries, raw}
 use Rattle.wire.specs.declared.Remembered.{Remembered}
 use Rattle.wire.specs.declared.Call.the-variants as C
 use Rattle.wire.specs.declared.Answer.the-variants.{Good}
@@ -15,7 +15,7 @@ use Rattle.wire.specs.declared.Outcome.the-variants.{Value, Failed}
 use Rattle.wire.specs.declared.ArmError.the-variants as E
 use Rattle.wire_memap.specs.Words.{pull, push}
 use Rattle.wire_memap.specs.Ops.{perform}
-use Rattle.call.specs.Bytes.{storeWords, storePart, patchBytes}
+use Rattle.call_bytes.specs.Bytes.{storeWords, storePart, patchBytes}
 use Rattle.call.specs.Change.{fresh}
 use Rattle.call.specs.Job.{exec}
 use Rattle.call_connect.specs.Connect.{ones, parity}

@@ -1,5 +1,5 @@
 -- A row of the table by its number.
-use Rattle.wire.specs.Laws.Flight.{errors}
+use Rattle.wire.specs.Laws.Told.{errors}
 use Rattle.wire.specs.Laws.Rows.{past-rows}
 use borrow.Author.Needs.{needs}
 use Rattle.wire.proofs.error_at.Statement.{statement}

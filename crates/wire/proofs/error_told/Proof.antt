@@ -1,7 +1,7 @@
 -- Each error is the row of its number.
 use mathlib.Core.Path.{sym, _∙_}
 use native.Mathlib.Omega.{arith}
-use Rattle.wire.specs.Laws.Flight.{error-is, ack-is}
+use Rattle.wire.specs.Laws.Told.{error-is, ack-is}
 use borrow.Author.Needs.{needs}
 use Rattle.wire.proofs.error_told.Statement.{statement}
 use Rattle.wire.proofs.error_told.Tie as tie

@@ -1,6 +1,6 @@
 -- A value has a number that no error has.
 use mathlib.Core.Path.{sym, _∙_}
-use Rattle.wire.specs.Laws.Flight.{error-outcome}
+use Rattle.wire.specs.Laws.Told.{error-outcome}
 use borrow.Author.Needs.{needs}
 use Rattle.wire.proofs.outcome_told.Statement.{statement}
 use Rattle.wire.proofs.outcome_told.Tie as tie

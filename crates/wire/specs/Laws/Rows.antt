@@ -1,9 +1,9 @@
 -- A table by number, and a number that none of its rows has; a list of so many words, word by word. Serves the proofs only.
 use Prim.Native.Nat.{ℕ, zero, suc, _+_, _≤_, zero-le}
 use mathlib.Core.List.{List, [], _∷_}
-use mathlib.Core.Path.{_≡_, refl, ap}
+use mathlib.Core.Path.{_≡_, refl, sym, ap}
 use native.Mathlib.Omega.{arith}
-use lib.ListN.{length, getD, drop}
+use lib.ListN.{length, getD, drop, List·getD-eq-default}
 
 -- none of the k numbers below k, as a match tells it
 abbrev pub noneBelow : ℕ → ℕ → Type 0
@@ -24,12 +24,14 @@ from-least s zero n l h = omega arith
 from-least s (suc k) n l h = let p : s + k ≤ n = from-least s k n l (h .0) in let q : n ≡ s + k → ⊥ = h .1 in omega arith
 
 pub past : {A : Type 0} (rows : List A) (n : ℕ) (d : A) → length rows ≤ n → d ≡ getD rows n d
-past [] n d h = refl
-past (r ∷ rows) zero d h = absurd (omega arith)
-past (r ∷ rows) (suc n) d h = past rows n d (omega arith)
+past rows n d h = sym (List·getD-eq-default rows d h)
 
 pub past-rows : {A : Type 0} (rows : List A) (n : ℕ) (d : A) → noneBelow (length rows) n → d ≡ getD rows n d
 past-rows rows n d h = past rows n d (at-least (length rows) n h)
+
+-- where the number is known
+pub at-row : {A : Type 0} (rows : List A) (d : A) {n k : ℕ} → n ≡ k → getD rows k d ≡ getD rows n d
+at-row rows d h = ap (λ (i : ℕ). getD rows i d) (sym h)
 
 -- the first n words of a list
 abbrev pub spell : ℕ → List ℕ → List ℕ

@@ -1,7 +1,7 @@
 -- The operation makes the definition compute to its first access, which the callee begins.
 use native.Mathlib.Omega.{arith}
 use Rattle.wire_memap.specs.Ops.{perform}
-use Rattle.wire_memap.specs.Laws.Flight.{begins-of, direct-on, byte-request, byte-address}
+use Rattle.wire_memap.specs.Laws.Flight.{accesses, begins-of, direct-on, byte-request, byte-address}
 use borrow.Author.Needs.{needs}
 use Rattle.wire_memap.proofs.op_start.Statement.{statement}
 use Rattle.wire_memap.proofs.op_start.Tie as tie
@@ -16,11 +16,11 @@ returns-2 c ws f = let a = c .before .before .before .before .before .before .be
 
 returns-3 : tie.Need-returns-3
 unfolding perform
-returns-3 c ws f = begins-of (λ b k. simp (c .before .before .before .before .before .op3 .given .1) (simp (byte-request 3 _ _ (c .before .a323 .ensures .0) (c .before .a323 .ensures .1) (omega arith)))) (c .access .ensures (omega arith) f ws)
+returns-3 c ws f = begins-of (λ b k. simp (c .before .before .before .before .before .op3 .given .1) (simp (byte-request 3 _ _ (c .before .a323 .ensures .0) (c .before .a323 .ensures .1) (omega arith)))) (accesses (c .access .ensures) (omega arith) f ws)
 
 returns-4 : tie.Need-returns-4
 unfolding perform
-returns-4 c ws f = begins-of (λ b k. simp (c .before .before .before .before .before .op4 .given .1) (simp (byte-request 1 _ _ (c .before .a324 .ensures .0) (c .before .a324 .ensures .1) (omega arith)))) (c .access2 .ensures (omega arith) f ws)
+returns-4 c ws f = begins-of (λ b k. simp (c .before .before .before .before .before .op4 .given .1) (simp (byte-request 1 _ _ (c .before .a324 .ensures .0) (c .before .a324 .ensures .1) (omega arith)))) (accesses (c .access2 .ensures) (omega arith) f ws)
 
 returns-5 : tie.Need-returns-5
 unfolding perform

@@ -10,15 +10,15 @@ use lib.ListN.{set, getD, length-set}
 use Rattle.wire.specs.Wire.{Wire, Memory, follow}
 use Rattle.wire.specs.declared.Answer.{Answer}
 use Rattle.wire.specs.declared.Answer.the-variants.{Good}
-use Rattle.wire.specs.Count.{Counted}
-use Rattle.wire.specs.Transfer.{raw}
-use Rattle.wire.specs.Laws.Flight as W
-use Rattle.wire.specs.declared.Went as WW
+use Rattle.wire_transfer.specs.Count.{Counted}
+use Rattle.wire_transfer.specs.Transfer.{raw}
+use Rattle.wire_transfer.specs.Laws.Flight as W
+use Rattle.wire_transfer.specs.declared.Went as WW
 use Rattle.wire.specs.declared.Call.{Call}
-use Rattle.wire.specs.declared.Went.the-variants.{Again, Ended}
+use Rattle.wire_transfer.specs.declared.Went.the-variants.{Again, Ended}
 use Rattle.wire.specs.Laws.Numbers.{less}
 use Rattle.wire.specs.Laws.Rows.{noneBelow, noneFrom, past-rows, past, from-least}
-use Rattle.wire.specs.Laws.Flight.{Sized, transferOf, transferTree, begun, begun-is, begun-sized, begun-counted}
+use Rattle.wire_transfer.specs.Laws.Flight.{Sized, transferOf, transferTree, begun, begun-is, begun-sized, begun-counted}
 use Rattle.wire.specs.declared.ArmError.{ArmError}
 use Rattle.wire.specs.declared.Outcome.{Outcome}
 use Rattle.wire.specs.declared.Outcome.the-variants.{Value, Failed}
@@ -144,9 +144,14 @@ waiting phase request word select m = set (set (set (set m 0 (phase % 16 + 16)) 
 abbrev pub inPhase : ℕ → List ℕ → Then → Then
 inPhase n m k = phaseAfter (phaseOf n) (taskOf m) (getD m 1 0) k
 
-abbrev pub Accessed : ℕ → ℕ → ℕ → ℕ → List ℕ → List ℕ → List ℕ → List ℕ → Type 0
-Accessed n request addr word t₀ m₀ t m =
-    n < 16 → Fits t₀ m₀ → (ws : List ℕ) → Begins (λ k. apAccess (request % 256) addr word (inPhase n m₀ k)) m₀ ws t m
+-- whether SELECT stands already for the register at addr
+abbrev pub known : ℕ → List ℕ → Bool
+known addr m = eqb (selectOf (rememberedOf m) addr) (getD m 9 0)
+
+-- The words of an access that is begun: its own transfer is in flight, or SELECT's before it.
+pub record Accessed (n request addr word : ℕ) (t₀ m₀ t m : List ℕ) : Type 0 where
+  pub transfer : t ≡ cond (known addr m₀) (begun request word t₀) (begun (dpWriting SELECT) (selectOf (rememberedOf m₀) addr) t₀)
+  pub op : m ≡ cond (known addr m₀) (set m₀ 0 n) (waiting n request word (selectOf (rememberedOf m₀) addr) m₀)
 
 mod16 : (n : ℕ) → n < 16 → n % 16 ≡ n
 mod16 n l = omega (arith, l)
@@ -189,13 +194,28 @@ begins-of e g = record { tree = λ b k. e b k ∙ g .tree b k; fits = g .fits; c
 -- an access where SELECT stands already, and one where it does not
 pub access-known : (n request addr word s : ℕ) (t m : List ℕ) {u v : List ℕ} → s ≡ selectOf (rememberedOf m) addr → s ≡ getD m 9 0
     → (u ≡ begun request word t) × (v ≡ set m 0 n) → Accessed n request addr word t m u v
-access-known n request addr word s t m is e g l f ws =
-    begins-as g (begins-of (λ b k. simp (eq-eqb _ _ (sym is ∙ e))) (direct-begins n request word t m ws l f))
+access-known n request addr word s t m is e g = record {
+  transfer = simp (eq-eqb _ _ (sym is ∙ e)) (g .0);
+  op = simp (eq-eqb _ _ (sym is ∙ e)) (g .1);
+}
 
 pub access-selects : (n request addr word s : ℕ) (t m : List ℕ) {u v : List ℕ} → s ≡ selectOf (rememberedOf m) addr → (s ≡ getD m 9 0 → ⊥)
     → (u ≡ begun (dpWriting SELECT) s t) × (v ≡ waiting n request word s m) → Accessed n request addr word t m u v
-access-selects n request addr word s t m is e g l f ws =
-    begins-as g (begins-of (λ b k. simp (ne-eqb _ _ (λ q. e (is ∙ q))) (rw (← is) refl)) (select-begins n request word s t m ws l f))
+access-selects n request addr word s t m is e g = record {
+  transfer = simp (ne-eqb _ _ (λ q. e (is ∙ q))) (g .0 ∙ ap (λ (x : ℕ). begun (dpWriting SELECT) x t) is);
+  op = simp (ne-eqb _ _ (λ q. e (is ∙ q))) (g .1 ∙ ap (λ (x : ℕ). waiting n request word x m) is);
+}
+
+pub accesses : {n request addr word : ℕ} {t₀ m₀ t m : List ℕ} → Accessed n request addr word t₀ m₀ t m → n < 16 → Fits t₀ m₀
+    → (ws : List ℕ) → Begins (λ k. apAccess (request % 256) addr word (inPhase n m₀ k)) m₀ ws t m
+accesses {n} {request} {addr} {word} {t₀} {m₀} {t} {m} g l f ws = by-known (known addr m₀) refl (g .transfer) (g .op)
+  where
+    by-known : (x : Bool) → known addr m₀ ≡ x
+        → t ≡ cond x (begun request word t₀) (begun (dpWriting SELECT) (selectOf (rememberedOf m₀) addr) t₀)
+        → m ≡ cond x (set m₀ 0 n) (waiting n request word (selectOf (rememberedOf m₀) addr) m₀)
+        → Begins (λ k. apAccess (request % 256) addr word (inPhase n m₀ k)) m₀ ws t m
+    by-known true e u v = begins-as (u, v) (begins-of (λ b k. simp e) (direct-begins n request word t₀ m₀ ws l f))
+    by-known false e u v = begins-as (u, v) (begins-of (λ b k. simp e) (select-begins n request word (selectOf (rememberedOf m₀) addr) t₀ m₀ ws l f))
 
 -- The action p, begun in the words t₀ and m₀ over the row ws, is in flight in t and m; and the same over every row.
 abbrev pub BegunAt : Action → List ℕ → List ℕ → List ℕ → List ℕ → List ℕ → Type 0
@@ -325,7 +345,7 @@ pub tar-begins : (t m : List ℕ) {u v : List ℕ} → Accessed TAR-SENT (apWrit
 tar-begins t m {u} {v} a ws f = record { tree = λ b k. here b k ∙ there .tree b k; fits = there .fits; counted = there .counted }
   where
     there : Begins (λ k. apAccess (apWriting TAR) TAR (getD (set m 10 1) 4 0) (inPhase TAR-SENT (set m 10 1) k)) (set m 10 1) ws u v
-    there = a (omega arith) (f .0, length-set m 10 1 ∙ f .1) ws
+    there = accesses a (omega arith) (f .0, length-set m 10 1 ∙ f .1) ws
 
     here : (b : List ℕ) (k : Then) → tarAfter m k (stands m ws b) ≡ apAccess (apWriting TAR) TAR (getD (set m 10 1) 4 0) (inPhase TAR-SENT (set m 10 1) k) (stands (set m 10 1) ws b)
     here b k = by-words
@@ -351,7 +371,7 @@ module _ (kind addr word n last : ℕ) (t m : List ℕ) {u v : List ℕ} where
       m₅ m = tasked kind addr word n last m
 
       there : Begins (λ k. apAccess (apWriting TAR) TAR addr (inPhase TAR-SENT (m₅ m) k)) (m₅ m) ws u v
-      there = a (omega arith) (f .0, tasked-sized kind addr word n last m (f .1)) ws
+      there = accesses a (omega arith) (f .0, tasked-sized kind addr word n last m (f .1)) ws
 
       here : (b : List ℕ) (k : Then) → ensuringTask (taskBy kind addr word last) n k (stands m ws b) ≡ apAccess (apWriting TAR) TAR addr (inPhase TAR-SENT (m₅ m) k) (stands (m₅ m) ws b)
       here b k = by-words (λ m. getD (m₅ m) 10 0 ≡ 1
@@ -366,7 +386,7 @@ module _ (kind addr word n last : ℕ) (t m : List ℕ) {u v : List ℕ} where
       m₅ m = tasked kind addr word n last m
 
       there : Begins (λ k. apAccess (apWriting CSW) CSW CSW-DEFAULT (inPhase CSW-SENT (m₅ m) k)) (m₅ m) ws u v
-      there = a (omega arith) (f .0, tasked-sized kind addr word n last m (f .1)) ws
+      there = accesses a (omega arith) (f .0, tasked-sized kind addr word n last m (f .1)) ws
 
       here : (b : List ℕ) (k : Then) → ensuringTask (taskBy kind addr word last) n k (stands m ws b) ≡ apAccess (apWriting CSW) CSW CSW-DEFAULT (inPhase CSW-SENT (m₅ m) k) (stands (m₅ m) ws b)
       here b k = by-words (λ m. (getD (m₅ m) 10 0 ≡ 1 → ⊥)

@@ -9,7 +9,7 @@ use lib.Dec.{eqb}
 use lib.ListN.{set, getD}
 use Rattle.wire.specs.Bytes.{patternAt}
 use Rattle.wire.specs.declared.Pattern.{Pattern}
-use Rattle.wire.specs.Laws.Flight.{transferOf}
+use Rattle.wire_transfer.specs.Laws.Flight.{transferOf}
 use Rattle.wire.specs.declared.Answer.the-variants as A
 use Rattle.wire.specs.declared.Call.{Call}
 use Rattle.wire.specs.declared.Call.the-variants as C

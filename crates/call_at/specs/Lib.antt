@@ -1,0 +1,1 @@
+-- no definitions: `At` is declared by the code

@@ -1,0 +1,11 @@
+-- Past the end `set` changes nothing.
+use mathlib.Core.Path.{sym}
+use lib.Seq.{set-out}
+use borrow.Author.Needs.{needs}
+use Rattle.call_bytes.proofs.poke.Statement.{statement}
+use Rattle.call_bytes.proofs.poke.Tie as tie
+
+pub poke-spec : {M : Type 1} → statement M
+poke-spec = tie.close (tie.spec
+    (λ c. search needs) (λ c. search needs) (λ c. search needs)
+    (λ c. sym (set-out _ _ _ (c .if1 .left))))
