@@ -3,14 +3,13 @@
 // Ported from arm-debug/src/lib.rs of ciniml/rust-dap.
 
 // What a call changes besides its transport calls: what is remembered, the row of words, the caller's buffer.
-ghost use mathlib.Core.Bool.{true};
 ghost use mathlib.Core.List.{[], _∷_};
 ghost use mathlib.Core.Path.{_≡_};
 ghost use lib.ListN.{set};
 ghost use lib.Seq.{sets};
 ghost use Rattle.wire.specs.Wire.{memoryOf};
 ghost use Rattle.call.specs.Change.{fresh, changed, XPSR-THUMB};
-ghost use Rattle.call.specs.Laws.Change.{rememberedAfter, wordsAfter, bufAfter};
+ghost use Rattle.call.specs.Laws.Change.{rememberedAfter, wordsAfter, bufAfter, isNothing};
 use call_at::At;
 use wire::Outcome;
 use wire::Remembered;
@@ -88,7 +87,7 @@ pub fn new() -> Remembered
 
 // Whether a change is none.
 pub fn is_nothing(c: Change) -> bool
-    ensures { λ r. ⌜ (r ≡ true → c ≡ Change.Nothing) ⌝ }
+    ensures { λ r. ⌜ r ≡ isNothing c ⌝ }
 {
     match c {
         Change::Nothing => true,

@@ -1,4 +1,3 @@
 pub mod Loads
 pub mod Lending
 pub mod Performing
-pub mod Sizes

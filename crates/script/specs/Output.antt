@@ -14,9 +14,9 @@ use Rattle.engine_run.specs.Run.{within}
 use Rattle.script_lines.specs.declared.Shown.{Shown}
 use Rattle.script_lines.specs.declared.Shown.the-variants as S
 use Rattle.script_lines.specs.Listing.{callLines, resultLine, shownText}
-use Rattle.script_request.specs.BigEndian.{byte}
+use Rattle.script_form.specs.BigEndian.{byte}
 use Rattle.script_request.specs.Request.{requestOf, wordsOf, bytesOf}
-use Rattle.script.specs.Script.{wellFormed, arguments, answers}
+use Rattle.script_form.specs.Script.{wellFormed, arguments, answers}
 use Rattle.script_request.specs.declared.Buffer.{Buffer}
 use Rattle.script_request.specs.declared.Buffer.the-variants as B
 use Rattle.script_request.specs.declared.Request.{Request}

@@ -4,80 +4,23 @@ ghost use mathlib.Core.Bool.{true, cond};
 ghost use Prim.Native.Nat.{_+_, _-_, _*_, _^_, _≤_, _<_};
 ghost use lib.ListN.{length, drop};
 ghost use lib.Seq.{sets};
-ghost use Rattle.script_request.specs.BigEndian.{word as Number·word, row};
+ghost use Rattle.script_form.specs.BigEndian.{word as Number·word, row};
 ghost use Rattle.script_request.specs.Request.{wordsOf, bytesOf};
 ghost use Rattle.engine_calls.specs.Calls.{frameOf};
 ghost use Rattle.script_lines.specs.Listing.{runLines};
 ghost use Rattle.script_lines.specs.Laws.Puts.{Puts};
-ghost use Rattle.script.specs.Script.{callEnd, answerCount, goodAnswer, goodAnswers, answerAt, wellFormed};
+ghost use Rattle.script_form.specs.Script.{callEnd, answerCount, answerAt};
 ghost use Rattle.script.specs.Output.{malformedText, shownOf, isFrame, performed, requestText, scriptText, outputOf};
 ghost use Rattle.script.specs.Laws.Lending.{zeros, Zeros, wordCount, byteCount};
-ghost use Rattle.script.specs.Laws.Sizes.{Sizes};
+ghost use Rattle.script_form.specs.Laws.Sizes.{Sizes};
 use engine_calls::EngineCall;
+use script_form::byte;
+use script_form::half;
+use script_form::word;
 use script_lines::Shown;
 use script_request::Buffer;
 use script_request::Request;
-use script_request::byte;
-use script_request::half;
-use script_request::word;
 use wire_numbers::CallEnding;
-
-fn good_answer(input: &[u8], i: usize) -> bool
-    requires { ⌜ i < 2 ^ 62 ⌝ }
-    ensures { λ r. ⌜ r ≡ goodAnswer (now (input .entry)) i ⌝ }
-{
-    if half(input, i) != 5 {
-        return false;
-    }
-    let code = byte(input, i + 2);
-    if 3 < code {
-        return false;
-    }
-    if code != 1 {
-        return true;
-    }
-    word(input, i + 3) <= 255
-}
-
-fn good_answers(input: &[u8], n: usize, i: usize) -> bool
-    requires { ⌜ i + 7 * n < 2 ^ 62 ⌝ }
-    ensures { λ r. ⌜ r ≡ goodAnswers (now (input .entry)) n i ⌝ }
-{
-    let mut left = n;
-    let mut at = i;
-    while left > 0 {
-        if !good_answer(input, at) {
-            return false;
-        }
-        at += 7;
-        left -= 1;
-    }
-    true
-}
-
-fn well_formed(input: &[u8]) -> bool
-    ensures { λ r. ⌜ r ≡ wellFormed (now (input .entry)) ⌝ }
-{
-    let n = input.len();
-    if 65536 < n {
-        return false;
-    }
-    if byte(input, 0) != 1 {
-        return false;
-    }
-    let len = half(input, 1) as usize;
-    if len < 1 {
-        return false;
-    }
-    let end = 3 + len;
-    if n < end {
-        return false;
-    }
-    if (n - end) % 7 != 0 {
-        return false;
-    }
-    good_answers(input, (n - end) / 7, end)
-}
 
 fn answer_at(input: &[u8], i: usize) -> u64
     requires { ⌜ i < 2 ^ 62 ⌝ }
@@ -391,7 +334,7 @@ pub fn dapscript(input: &[u8], out: &mut [u8]) -> usize
         × (now (out .exit) ≡ sets (now (out .entry)) 0 (outputOf (now (input .entry))))
         × (r ≤ 1114112) ⌝ }
 {
-    if well_formed(input) {
+    if script_form::well_formed(input) {
         return put_script(input, out);
     }
     put_malformed(out)

@@ -13,7 +13,7 @@ use Rattle.call_fpb.specs.declared.FpbCall.the-variants as P
 use Rattle.call_nrf.specs.declared.NrfCall.the-variants as F
 use Rattle.engine_calls.specs.declared.EngineCall.{EngineCall}
 use Rattle.engine_calls.specs.declared.EngineCall.the-variants as E
-use Rattle.script_request.specs.BigEndian.{byte, half, word, row}
+use Rattle.script_form.specs.BigEndian.{byte, half, word, row}
 use Rattle.script_request.specs.declared.Buffer.{Buffer}
 use Rattle.script_request.specs.declared.Buffer.the-variants as B
 use Rattle.script_request.specs.declared.Request.{Request}

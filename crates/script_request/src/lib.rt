@@ -1,7 +1,6 @@
 // The request of a script: from the number of a call and the bytes behind it to the call and what it is lent.
 ghost use mathlib.Core.Path.{_≡_};
 ghost use Prim.Native.Nat.{_≤_};
-ghost use Rattle.script_request.specs.BigEndian.{byte as Number·byte, half as Number·half, word as Number·word};
 ghost use Rattle.script_request.specs.Request.{fixed as Request·fixed, plain, wordsFollow, bytesFollow, functionOf, readWords, requestOf};
 use call_connect::ConnectCall;
 use call_core::CoreCall;
@@ -10,6 +9,9 @@ use call_fpb::FpbCall;
 use call_memory::MemoryCall;
 use call_nrf::NrfCall;
 use engine_calls::EngineCall;
+use script_form::byte;
+use script_form::half;
+use script_form::word;
 
 // What a call is lent: zeros that are printed afterwards, or the rest of its record, words behind so many bytes. `Frame`: zeros
 // for a frame, which is printed if the call succeeds.
@@ -25,36 +27,6 @@ pub enum Buffer {
 pub enum Request {
     Malformed,
     Asked(EngineCall, Buffer),
-}
-
-pub fn byte(a: &[u8], i: usize) -> u8
-    ensures { λ r. ⌜ r ≡ Number·byte (now (a .entry)) i ⌝ }
-{
-    if i < a.len() {
-        return a[i];
-    }
-    0
-}
-
-pub fn half(a: &[u8], i: usize) -> u16
-    ensures { λ r. ⌜ r ≡ Number·half (now (a .entry)) i ⌝ }
-{
-    if a.len() <= i {
-        return 0;
-    }
-    0x100 * (byte(a, i) as u16) + (byte(a, i + 1) as u16)
-}
-
-pub fn word(a: &[u8], i: usize) -> u32
-    ensures { λ r. ⌜ r ≡ Number·word (now (a .entry)) i ⌝ }
-{
-    if a.len() <= i {
-        return 0;
-    }
-    0x1000000 * (byte(a, i) as u32)
-        + 0x10000 * (byte(a, i + 1) as u32)
-        + 0x100 * (byte(a, i + 2) as u32)
-        + (byte(a, i + 3) as u32)
 }
 
 // Arguments of exactly `size` bytes.

@@ -1,111 +1,46 @@
 // What no script shows: what is remembered after Spent, the end of a ROM table, the frame of a call 23 that fails, the steps
 // themselves, also those past a call's end; and 01's cases that are not marked P. A line: a name, then for each run the transport
 // calls made, the result number and value, and SELECT, CSW, APSEL after; for each step the transport call or the ending.
-use call_connect::ConnectCall;
-use call_core::CoreCall;
-use call_core::Function;
-use call_memory::MemoryCall;
-use call_nrf::NrfCall;
 use engine::NextStep;
 use engine::State;
 use engine::StepAnswer;
 use engine_calls::EngineCall;
 use engine_run::Ran;
+use test_calls::decimal;
+use test_calls::digits;
+use test_calls::hex;
+use test_calls::number;
+use test_calls::write;
 use wire::Answer;
 use wire::Remembered;
 use wire_numbers::TransportCall;
 
-fn wide(x: u8) -> u64 {
-    x as u64
+fn wide(x: u8) -> u32 {
+    x as u32
 }
 
-fn wide_word(x: u32) -> u64 {
-    x as u64
-}
-
-fn write(text: &[u8]) {
-    io::write_all(1, text);
-}
-
-fn memory_call(number: u8, addr: u32) -> MemoryCall {
-    match number {
-        9 => MemoryCall::ReadWord(addr),
-        13 => MemoryCall::ReadMem(addr),
-        _ => MemoryCall::WriteMem(addr),
-    }
-}
-
-fn core_call(number: u8) -> CoreCall {
-    match number {
-        17 => CoreCall::Resume,
-        22 => CoreCall::RomFuncLookup(0x49, 0x46),
-        _ => CoreCall::StartFunction(Function {
-            fn_addr: 0x101,
-            a0: 1,
-            a1: 2,
-            a2: 3,
-            a3: 4,
-            sp: 0x20001000,
-            trampoline: 0x20000000,
-        }),
-    }
-}
-
-fn connect_call(number: u8, id: u32) -> ConnectCall {
-    match number {
-        3 => ConnectCall::ConnectSwd,
-        _ => ConnectCall::Reselect(id),
-    }
-}
-
-fn nrf_call(number: u8, addr: u32) -> NrfCall {
-    match number {
-        32 => NrfCall::Nrf52Program {
-            addr: addr,
-            polls: 9,
-        },
-        _ => NrfCall::Nrf54Program {
-            addr: addr,
-            polls: 9,
-        },
-    }
-}
-
-// The calls that are tested, by 01's number, with the argument that varies.
+// The calls that are tested, with the argument that varies: call 22 looks for "IF", call 23 has a function of four arguments, calls 32
+// and 35 poll nine times.
 fn call_of(number: u8, a: u32) -> EngineCall {
-    if number <= 5 {
-        return EngineCall::Connect(connect_call(number, a));
-    }
-    if number <= 14 {
-        return EngineCall::Memory(memory_call(number, a));
-    }
-    if number <= 25 {
-        return EngineCall::Core(core_call(number));
-    }
-    EngineCall::Nrf(nrf_call(number, a))
-}
-
-fn decimal(x: u64) {
-    write(b" ");
-    io::print_decimal(1, x);
-}
-
-fn hex(x: u32) {
-    write(b" ");
-    io::print_hex(1, wide_word(x), 8);
+    let args = match number {
+        22 => [0x49, 0x46, 0, 0, 0, 0, 0, 0],
+        23 => [0x101, 1, 2, 3, 4, 0x20001000, 0x20000000, 0],
+        _ => [a, 9, 0, 0, 0, 0, 0, 0],
+    };
+    test_calls::call_of(number, &args)
 }
 
 fn byte(x: u8) {
-    io::print_hex(1, wide(x), 2);
+    digits(wide(x), 2);
 }
 
 fn show_ending(number: u8, value: u32) {
     decimal(wide(number));
-    hex(value);
+    hex(value, 8);
 }
 
 fn show_memory(r: Remembered) {
-    hex(r.select);
+    hex(r.select, 8);
     if r.csw {
         write(b" csw");
     } else {
@@ -116,7 +51,7 @@ fn show_memory(r: Remembered) {
 }
 
 fn show(x: Ran) {
-    decimal(wide_word(x.count));
+    decimal(x.count);
     show_ending(x.ending.number, x.ending.value);
     let r = x.remembered;
     show_memory(r);
@@ -192,7 +127,7 @@ fn top_word() {
     let mut some = [9u8; 8];
     write(b"\nthe top word but one byte:");
     once(13, 0xFFFFFFF7, 0x44332211, &mut some);
-    io::print_decimal(1, wide(some[7]));
+    number(wide(some[7]));
 }
 
 // 01's cases that are not marked P: these three.
@@ -201,7 +136,7 @@ fn four_bytes() {
     write(b"\n4 bytes at 0xFFFFFFFC, read and written:");
     once(13, 0xFFFFFFFC, 0x44332211, &mut four);
     once(14, 0xFFFFFFFC, 0x44332211, &mut four);
-    io::print_decimal(1, wide(four[0]));
+    number(wide(four[0]));
 }
 
 fn three_bytes() {
@@ -223,9 +158,9 @@ fn programs() {
 // Call 23 has a frame.
 fn show_frame(number: u8, frame: &[u32; 8]) {
     if number == 23 {
-        hex(frame[0]);
+        hex(frame[0], 8);
         write(b"..");
-        io::print_hex(1, wide_word(frame[7]), 8);
+        digits(frame[7], 8);
     }
 }
 
@@ -284,8 +219,8 @@ fn show_made(c: TransportCall, first: u8) {
     let kind = [c.kind; 1];
     write(b" ");
     write(&kind);
-    io::print_hex(1, wide(c.request), 1);
-    hex(c.word);
+    digits(wide(c.request), 1);
+    hex(c.word, 8);
     decimal(wide(c.bits));
     decimal(wide(c.len));
     write(b",");

@@ -1,14 +1,12 @@
 // Lists of calls, each list on one engine, as the unchanged Rust made them. Standard input and what must be printed for it:
 // tools/README.md.
 ghost use Prim.Native.Nat.{_<_};
-use call_connect::ConnectCall;
-use call_core::CoreCall;
-use call_core::Function;
-use call_fpb::FpbCall;
-use call_memory::MemoryCall;
-use call_nrf::NrfCall;
-use engine_calls::EngineCall;
 use engine_run::Ran;
+use test_calls::decimal;
+use test_calls::digits;
+use test_calls::hex;
+use test_calls::number;
+use test_calls::write;
 use wire::Call;
 use wire::Remembered;
 use wire_numbers::CallEnding;
@@ -21,10 +19,6 @@ fn wide(x: u8) -> u32
     ensures { λ r. ⌜ r < 256 ⌝ }
 {
     x as u32
-}
-
-fn wide_word(x: u32) -> u64 {
-    x as u64
 }
 
 fn next_byte() -> u8 {
@@ -47,118 +41,10 @@ fn next_word() -> u32 {
     0x10000 * a + b
 }
 
-// Calls 1 to 5, with the first argument.
-fn connect_call(number: u8, w: u32) -> ConnectCall {
-    match number {
-        1 => ConnectCall::ConnectMultidrop(w),
-        2 => ConnectCall::ProbeSwd,
-        3 => ConnectCall::ConnectSwd,
-        4 => ConnectCall::ResetPulse(w),
-        _ => ConnectCall::Reselect(w),
-    }
-}
-
-// Calls 6 to 14, with the first two; b is the first as a byte.
-fn memory_call(number: u8, b: u8, w: u32, v: u32) -> MemoryCall {
-    match number {
-        6 => MemoryCall::SetApsel(b),
-        7 => MemoryCall::ApRegRead(b),
-        8 => MemoryCall::ApRegWrite(b, v),
-        9 => MemoryCall::ReadWord(w),
-        10 => MemoryCall::WriteWord(w, v),
-        11 => MemoryCall::ReadWords(w),
-        12 => MemoryCall::WriteWords(w),
-        13 => MemoryCall::ReadMem(w),
-        _ => MemoryCall::WriteMem(w),
-    }
-}
-
-// Calls 15 to 22, and 24.
-fn core_call(number: u8, b: u8, w: u32, v: u32) -> CoreCall {
-    match number {
-        15 => CoreCall::DebugEnable,
-        16 => CoreCall::Halt,
-        17 => CoreCall::Resume,
-        18 => CoreCall::Step,
-        19 => CoreCall::IsHalted,
-        20 => CoreCall::ReadCoreReg(b),
-        21 => CoreCall::WriteCoreReg(b, v),
-        22 => CoreCall::RomFuncLookup(b, (v % 256) as u8),
-        _ => CoreCall::FinishFunction(w),
-    }
-}
-
-// Calls 23 and 25.
-fn function_call(number: u8, a: &[u32; 8]) -> CoreCall {
-    let f = Function {
-        fn_addr: a[0],
-        a0: a[1],
-        a1: a[2],
-        a2: a[3],
-        a3: a[4],
-        sp: a[5],
-        trampoline: a[6],
-    };
-    if number == 23 {
-        return CoreCall::StartFunction(f);
-    }
-    CoreCall::CallFunction(f, a[7])
-}
-
-// Calls 26 to 28.
-fn fpb_call(number: u8, w: u32) -> FpbCall {
-    match number {
-        26 => FpbCall::HwBreakpointSet(w),
-        27 => FpbCall::HwBreakpointClear(w),
-        _ => FpbCall::HwBreakpointAt(w),
-    }
-}
-
-// Calls 29 to 35.
-fn nrf_call(number: u8, w: u32, v: u32) -> NrfCall {
-    match number {
-        29 => NrfCall::Nrf52ApprotectStatus,
-        30 => NrfCall::Nrf52EraseAll(w),
-        31 => NrfCall::Nrf52ErasePage { addr: w, polls: v },
-        32 => NrfCall::Nrf52Program { addr: w, polls: v },
-        33 => NrfCall::Nrf54ApprotectStatus,
-        34 => NrfCall::Nrf54EraseAll(w),
-        _ => NrfCall::Nrf54Program { addr: w, polls: v },
-    }
-}
-
-fn plain_call(number: u8, w: u32, v: u32) -> EngineCall {
-    let b = (w % 256) as u8;
-    if number <= 5 {
-        return EngineCall::Connect(connect_call(number, w));
-    }
-    if number <= 14 {
-        return EngineCall::Memory(memory_call(number, b, w, v));
-    }
-    if number <= 24 {
-        return EngineCall::Core(core_call(number, b, w, v));
-    }
-    if number <= 28 {
-        return EngineCall::Fpb(fpb_call(number, w));
-    }
-    EngineCall::Nrf(nrf_call(number, w, v))
-}
-
-fn call_of(number: u8, a: &[u32; 8]) -> EngineCall {
-    if number == 23 || number == 25 {
-        return EngineCall::Core(function_call(number, a));
-    }
-    plain_call(number, a[0], a[1])
-}
-
-fn write(text: &[u8]) {
-    io::write_all(1, text);
-}
-
 fn show_bytes(bytes: &[u8]) {
     let mut i = 0;
     while i < bytes.len() {
-        io::print_hex(1, wide(bytes[i]) as u64, 2);
+        digits(wide(bytes[i]), 2);
         i += 1;
     }
 }
@@ -166,7 +52,7 @@ fn show_bytes(bytes: &[u8]) {
 fn show_words(words: &[u32]) {
     let mut i = 0;
     while i < words.len() {
-        io::print_hex(1, wide_word(words[i]), 8);
+        digits(words[i], 8);
         i += 1;
     }
 }
@@ -177,22 +63,16 @@ fn show_first(bytes: &[u8], n: usize) {
     }
 }
 
-fn spaced_hex(x: u32, digits: usize) {
-    write(b" ");
-    io::print_hex(1, wide_word(x), digits);
-}
-
 fn show_pins(output: u8, select: u8, wait_us: u32) {
-    spaced_hex(wide(output), 2);
-    spaced_hex(wide(select), 2);
-    spaced_hex(wait_us, 8);
+    hex(wide(output), 2);
+    hex(wide(select), 2);
+    hex(wait_us, 8);
 }
 
 // The bits of a call that hands bytes over, and these.
 fn show_handed(bits: u8, len: u8, bytes: &[u8; 16]) {
     let n = len as usize;
-    write(b" ");
-    io::print_decimal(1, bits as u64);
+    decimal(wide(bits));
     write(b" ");
     show_first(bytes, n);
 }
@@ -202,8 +82,8 @@ fn show_numbers(c: TransportCall, bytes: &[u8; 16]) {
     let kind = c.kind;
     match kind {
         0x54 => {
-            spaced_hex(wide(c.request), 1);
-            spaced_hex(c.word, 8);
+            hex(wide(c.request), 1);
+            hex(c.word, 8);
         }
         0x50 => show_pins(c.output, c.select, c.word),
         0x51 | 0x42 => show_handed(c.bits, c.len, bytes),
@@ -244,9 +124,8 @@ fn show_calls(log: &[u64], n: usize) {
 }
 
 fn show_result(e: CallEnding) {
-    io::print_decimal(1, e.number as u64);
-    write(b" ");
-    io::print_hex(1, e.value as u64, 8);
+    number(wide(e.number));
+    hex(e.value, 8);
     write(b"\n");
 }
 
@@ -295,7 +174,7 @@ fn load_frame(words: &[u32], frame: &mut [u32; 8]) {
 
 fn show_number(number: u8) {
     write(b"call ");
-    io::print_decimal(1, number as u64);
+    test_calls::number(wide(number));
     write(b"\n");
 }
 
@@ -318,7 +197,7 @@ fn run(
 ) -> Ran {
     engine_run::run(
         r,
-        call_of(number, a),
+        test_calls::call_of(number, a),
         0xFFFFFFFF,
         answers,
         frame,

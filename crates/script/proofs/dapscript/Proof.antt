@@ -3,7 +3,7 @@ use mathlib.Core.Path.{sym, _∙_}
 use native.Mathlib.Omega.{arith}
 use borrow.Author.Needs.{needs}
 use Rattle.script.specs.Output.{outputOf}
-use Rattle.script.specs.Laws.Sizes.{sizes}
+use Rattle.script_form.specs.Laws.Sizes.{sizes}
 use Rattle.script.proofs.dapscript.Statement.{statement}
 use Rattle.script.proofs.dapscript.Tie as tie
 

@@ -5,8 +5,8 @@ use native.Mathlib.Omega.{arith}
 use borrow.Author.Needs.{needs}
 use lib.ListN.{length}
 use Rattle.script_lines.specs.Laws.Puts.{Left}
-use Rattle.script_request.specs.BigEndian.{row}
-use Rattle.script.specs.Script.{answerAt}
+use Rattle.script_form.specs.BigEndian.{row}
+use Rattle.script_form.specs.Script.{answerAt}
 use Rattle.script.specs.Laws.Loads.{row-all, left-row, row-whole}
 use Rattle.script.proofs.load_answers.Statement.{statement}
 use Rattle.script.proofs.load_answers.Tie as tie

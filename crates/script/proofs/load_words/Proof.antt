@@ -5,7 +5,7 @@ use native.Mathlib.Omega.{arith}
 use borrow.Author.Needs.{needs}
 use lib.ListN.{length}
 use Rattle.script_lines.specs.Laws.Puts.{Left}
-use Rattle.script_request.specs.BigEndian.{row, word}
+use Rattle.script_form.specs.BigEndian.{row, word}
 use Rattle.script.specs.Laws.Loads.{row-all, left-row, row-whole}
 use Rattle.script.proofs.load_words.Statement.{statement}
 use Rattle.script.proofs.load_words.Tie as tie

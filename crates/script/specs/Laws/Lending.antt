@@ -5,7 +5,7 @@ use mathlib.Core.List.{List, _∷_}
 use native.Mathlib.Nat.{not-suc-le-zero}
 use native.Mathlib.Omega.{arith}
 use lib.ListN.{length, take, drop, replicate, length-replicate}
-use Rattle.script_request.specs.BigEndian.{word, row}
+use Rattle.script_form.specs.BigEndian.{word, row}
 use Rattle.script_request.specs.Request.{wordsOf, bytesOf}
 use Rattle.script_request.specs.declared.Buffer.{Buffer}
 use Rattle.script_request.specs.declared.Buffer.the-variants as B

@@ -1,15 +1,12 @@
 -- Lists that a loop fills number by number. Serves the proofs.
 use Prim.Native.Nat.{ℕ, zero, suc, _+_, _-_, _≤_, _<_}
-use mathlib.Core.Bool.{true, _&&_}
 use mathlib.Core.Path.{_≡_, refl, ap, sym, subst, _∙_}
 use mathlib.Core.List.{List, [], _∷_, _++_, append-nil}
 use native.Mathlib.Omega.{arith}
 use lib.ListN.{length, set, getD, drop, drop-of-length-le}
 use lib.Seq.{sets, sets-eq, drop-cons}
-use Rattle.wire.specs.Laws.Numbers.{less}
 use Rattle.script_lines.specs.Laws.Puts.{Left, left-all, left-puts, left-none}
-use Rattle.script_request.specs.BigEndian.{row}
-use Rattle.script.specs.Script.{goodAnswer, goodAnswers}
+use Rattle.script_form.specs.BigEndian.{row}
 
 -- one number
 pub left-one : {l₀ : List ℕ} {i₀ : ℕ} {t₀ l : List ℕ} {i : ℕ} (x : ℕ) (t : List ℕ) → Left l₀ i₀ t₀ l i (x ∷ t) → Left l₀ i₀ t₀ (set l i x) (i + 1) t
@@ -68,12 +65,3 @@ left-rest {l₀} {i₀} {t₀} {l} a j lt h =
 pub rest-whole : {l₀ l : List ℕ} (a : List ℕ) (j : ℕ) → length a ≤ 4 + j → length (drop 4 a) ≡ length l₀
     → Left l₀ 0 (drop 4 a) l j (drop (4 + j) a) → l ≡ drop 4 a
 rest-whole {l₀} {l} a j le e h = left-whole e (subst (λ (t : List ℕ). Left l₀ 0 (drop 4 a) l j t) (drop-of-length-le a le) h)
-
-pub good-none : (xs : List ℕ) (i : ℕ) → goodAnswers xs 0 i ≡ true
-unfolding goodAnswers
-good-none xs i = refl
-
-pub good-more : (xs : List ℕ) (n i : ℕ) → (n ≡ 0 → ⊥) → goodAnswers xs n i ≡ (goodAnswer xs i && goodAnswers xs (n - 1) (i + 7))
-unfolding goodAnswers
-good-more xs zero i h = absurd (h refl)
-good-more xs (suc n) i h = ap (λ (m : ℕ). goodAnswer xs i && goodAnswers xs m (i + 7)) (less n)

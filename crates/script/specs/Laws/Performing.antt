@@ -25,9 +25,9 @@ use Rattle.script_lines.specs.declared.Shown.{Shown}
 use Rattle.script_request.specs.declared.Buffer.{Buffer}
 use Rattle.script_request.specs.declared.Request.{Request}
 use Rattle.script_request.specs.declared.Request.the-variants.{Asked}
-use Rattle.script_request.specs.BigEndian.{byte, half, row}
+use Rattle.script_form.specs.BigEndian.{byte, half, row}
 use Rattle.script_request.specs.Request.{requestOf, wordsOf, bytesOf}
-use Rattle.script.specs.Script.{callEnd, arguments, answerCount, answerAt}
+use Rattle.script_form.specs.Script.{callEnd, arguments, answerCount, answerAt}
 use Rattle.script.specs.Output.{shownOf, isFrame, performed, requestText}
 
 -- a run makes at most as many calls as there are answers

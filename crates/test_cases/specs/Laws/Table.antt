@@ -27,9 +27,9 @@ use Rattle.engine_calls.specs.Calls.{callTree}
 use Rattle.engine_calls.specs.declared.EngineCall.the-variants as N
 use Rattle.script_lines.specs.Text.{digits, hex, together}
 use Rattle.script_lines.specs.Listing.{callLines}
-use Rattle.script_request.specs.BigEndian as BigEndian
+use Rattle.script_form.specs.BigEndian as BigEndian
 use Rattle.script_request.specs.Request.{requestOf, wordsOf, bytesOf}
-use Rattle.script.specs.Script.{goodAnswers, wellFormed}
+use Rattle.script_form.specs.Script.{goodAnswers, wellFormed}
 use Rattle.script.specs.Output.{performed, requestText, outputOf}
 use Rattle.target.specs.declared.Target.{Target}
 use Rattle.test_cases.specs.Laws.Given.{Ends, script, listing, known, row, oneTransfer, afterWaits, sixBytes, oneByte, connecting, Ready}

@@ -5,7 +5,7 @@ use mathlib.Core.Bool.{Bool, true, _&&_, _||_, not}
 use mathlib.Core.List.{List}
 use lib.Dec.{eqb, leb}
 use lib.ListN.{length, take, drop}
-use Rattle.script_request.specs.BigEndian.{byte, half, word, row}
+use Rattle.script_form.specs.BigEndian.{byte, half, word, row}
 
 -- the first record stands behind the version byte and ends here; its first byte is the call's number, the others its arguments
 abbrev pub callEnd : List ℕ → ℕ

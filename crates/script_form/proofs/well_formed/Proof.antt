@@ -1,9 +1,9 @@
 -- The tests come in the order of the definition.
 use borrow.Author.Needs.{needs}
 use borrow.Author.Tests.{eq-eqb, ne-eqb, lt-leb, le-leb}
-use Rattle.script.specs.Script.{wellFormed}
-use Rattle.script.proofs.well_formed.Statement.{statement}
-use Rattle.script.proofs.well_formed.Tie as tie
+use Rattle.script_form.specs.Script.{wellFormed}
+use Rattle.script_form.proofs.well_formed.Statement.{statement}
+use Rattle.script_form.proofs.well_formed.Tie as tie
 
 returns : tie.Need-returns
 unfolding wellFormed

@@ -3,8 +3,8 @@ use Prim.Native.Nat.{_+_, _≤_}
 use native.Mathlib.Omega.{arith}
 use borrow.Author.Needs.{needs}
 use lib.ListN.{length, List·getD-eq-default}
-use Rattle.script_request.proofs.half.Statement.{statement}
-use Rattle.script_request.proofs.half.Tie as tie
+use Rattle.script_form.proofs.half.Statement.{statement}
+use Rattle.script_form.proofs.half.Tie as tie
 
 pub half-spec : {M : Type 1} → statement M
 half-spec =

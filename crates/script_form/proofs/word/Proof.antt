@@ -3,8 +3,8 @@ use Prim.Native.Nat.{_+_, _≤_}
 use native.Mathlib.Omega.{arith}
 use borrow.Author.Needs.{needs}
 use lib.ListN.{length, List·getD-eq-default}
-use Rattle.script_request.proofs.word.Statement.{statement}
-use Rattle.script_request.proofs.word.Tie as tie
+use Rattle.script_form.proofs.word.Statement.{statement}
+use Rattle.script_form.proofs.word.Tie as tie
 
 pub word-spec : {M : Type 1} → statement M
 word-spec =

@@ -2,8 +2,8 @@
 use mathlib.Core.Path.{sym}
 use borrow.Author.Needs.{needs}
 use lib.ListN.{List·getD-eq-default}
-use Rattle.script_request.proofs.byte.Statement.{statement}
-use Rattle.script_request.proofs.byte.Tie as tie
+use Rattle.script_form.proofs.byte.Statement.{statement}
+use Rattle.script_form.proofs.byte.Tie as tie
 
 pub byte-spec : {M : Type 1} → statement M
 byte-spec =

@@ -6,8 +6,8 @@ use mathlib.Core.List.{List}
 use borrow.Author.Tests.{leb-true}
 use lib.Dec.{eqb, leb}
 use lib.ListN.{length}
-use Rattle.script_request.specs.BigEndian.{byte, half}
-use Rattle.script.specs.Script.{callEnd, answerCount, goodAnswers, wellFormed}
+use Rattle.script_form.specs.BigEndian.{byte, half}
+use Rattle.script_form.specs.Script.{callEnd, answerCount, goodAnswers, wellFormed}
 
 pub record Sizes (xs : List ℕ) : Type 0 where
   pub all : length xs ≤ 65536

@@ -4,8 +4,8 @@ use mathlib.Core.Path.{ap}
 use borrow.Author.Needs.{needs}
 use borrow.Author.Tests.{eq-eqb, ne-eqb, lt-leb, le-leb}
 use lib.Dec.{leb}
-use Rattle.script.proofs.good_answer.Statement.{statement}
-use Rattle.script.proofs.good_answer.Tie as tie
+use Rattle.script_form.proofs.good_answer.Statement.{statement}
+use Rattle.script_form.proofs.good_answer.Tie as tie
 
 pub good-answer-spec : {M : Type 1} → statement M
 good-answer-spec =
