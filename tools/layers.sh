@@ -1,5 +1,5 @@
 #!/bin/sh
-# The crates by layer, from crates.txt, each with those that it builds on directly: a dependency that is reached through another one is
+# The crates by layer, which is their prefix, from crates.txt, each with those that it builds on directly: what is reached through another one is
 # not named again. `--check` names the dependencies of a line that its crate does not need, and fails if there are any. A crate needs what
 # its files name, as `Rattle.NAME` or `NAME::`, and, as the toolchain wants it, whatever declares the type of a value that its code reaches:
 # the types it names, those in the signatures of the functions it calls, and what these hold.
@@ -68,7 +68,11 @@ if [ "${1:-}" = --check ]; then
 fi
 
 awk '
-/^#/ { layer[++lines] = substr($0, 3); next }
+# the layer of a crate, by its prefix
+function layer_of(name) {
+    sub(/_.*/, "", name)
+    return name == "wire" ? 1 : name ~ /^(call|engine)$/ ? 2 : name ~ /script$/ ? 3 : name == "target" ? 4 : name ~ /^(session|agreement)$/ ? 5 : 6
+}
 /^[a-z]/ {
     name = substr($1, 1, length($1) - 1)
     crate[++lines] = name
@@ -79,11 +83,15 @@ awk '
     for (pair in deep) { split(pair, ends, SUBSEP); if (ends[1] == name) below[pair] = 1 }
 }
 END {
-    for (l = 1; l <= lines; l++) {
-        if (l in layer) { print (l > 1 ? "\n" : "") layer[l]; continue }
-        name = crate[l]
-        on = ""
-        for (i = 1; i <= count[name]; i++) if (!((name, direct[name, i]) in deep)) on = on " " direct[name, i]
-        printf "    %-20s%s\n", name, on == "" ? "" : "<-" on
+    split("the wire|calls|the script|the model target|the session, and demand 3|cases, tests, benchmark", title, "|")
+    for (k = 1; k in title; k++) {
+        print (k > 1 ? "\n" : "") title[k]
+        for (l = 1; l <= lines; l++) {
+            name = crate[l]
+            if (layer_of(name) != k) continue
+            on = ""
+            for (i = 1; i <= count[name]; i++) if (!((name, direct[name, i]) in deep)) on = on " " direct[name, i]
+            printf "    %-20s%s\n", name, on == "" ? "" : "<-" on
+        }
     }
 }' crates.txt

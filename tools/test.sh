@@ -16,6 +16,8 @@ else
 fi
 chmod 755 "$TMPDIR"
 export TMPDIR
+# The checker gives memory back that it takes again at once; it keeps it instead.
+export MIMALLOC_PURGE_DELAY=-1
 trap 'rm -rf "$TMPDIR"' EXIT
 room=$TMPDIR/room
 mkdir "$room"

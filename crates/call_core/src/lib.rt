@@ -15,20 +15,20 @@ ghost use Rattle.call_core.specs.Cortex as Cortex;
 ghost use Rattle.call_core.specs.Function.{coreJob, ROM-TABLE-PTRS, joined, lookFrom, clobbered, writeRowReg, finishFunction, afterWait};
 ghost use Rattle.call_core.specs.Laws.After.{bitOf, waiting, polled, accessOn, accessAfter, entryOf, tabled, matching, findOn, ending, looking, looked, setting, saving, beginning, restoring, resulting};
 ghost use Rattle.call_core.specs.Laws.After.{runOn, overOn, thenOn, goesOn, stopsAt, phaseAfter, coreAfter};
-ghost use Rattle.call_core_at.specs.declared.CoreAt.the-variants.{Access};
-ghost use Rattle.call_core_at.specs.declared.Wait.the-variants.{Halt};
+ghost use Rattle.call_places.specs.declared.CoreAt.the-variants.{Access};
+ghost use Rattle.call_places.specs.declared.Wait.the-variants.{Halt};
 use call::Asks;
 use call::Change;
 use call::Next;
 use call_at::At;
-use call_core_at::AccessAt;
-use call_core_at::CoreAt;
-use call_core_at::FindStep;
-use call_core_at::Plan;
-use call_core_at::RunStep;
-use call_core_at::Search;
-use call_core_at::Then;
-use call_core_at::Wait;
+use call_places::AccessAt;
+use call_places::CoreAt;
+use call_places::FindStep;
+use call_places::Plan;
+use call_places::RunStep;
+use call_places::Search;
+use call_places::Then;
+use call_places::Wait;
 use wire::ArmError;
 use wire::Outcome;
 use wire_memap::Op;
@@ -234,7 +234,7 @@ fn doing(at: CoreAt, op: Op) -> Asks
 {
     Asks {
         change: Change::Nothing,
-        at: call_core_at::pack(at),
+        at: call_places::pack_core(at),
         next: Next::Do(op),
     }
 }
@@ -345,7 +345,7 @@ fn writing(change: Change, at: CoreAt, addr: u32, word: u32) -> Asks
 {
     Asks {
         change: change,
-        at: call_core_at::pack(at),
+        at: call_places::pack_core(at),
         next: Next::Do(Op::WriteWord {
             addr: addr,
             word: word,
@@ -746,7 +746,7 @@ fn failed_after(p: CoreAt, e: ArmError) -> Asks
 pub fn call_after(at: At, o: Outcome) -> Asks
     ensures { λ r. ⌜ coreAfter at o ≡ asks (r .change) (r .next) (coreAfter (r .at)) ⌝ }
 {
-    let p = call_core_at::unpack(at);
+    let p = call_places::unpack_core(at);
     match o {
         Outcome::Value(v) => value_after(p, v),
         Outcome::Failed(e) => failed_after(p, e),

@@ -7,8 +7,8 @@ use Rattle.call.specs.Job.{Job, _>>=_, _>>_, return, readWord, writeWord}
 use Rattle.call_fpb.specs.Fpb as fpb
 use Rattle.call_fpb.specs.declared.CompValue.{CompValue}
 use Rattle.call_fpb.specs.declared.CompValue.the-variants as P
-use Rattle.call_fpb.specs.declared.Free.{Free}
-use Rattle.call_fpb.specs.declared.Free.the-variants as F
+use Rattle.call_places.specs.declared.Free.{Free}
+use Rattle.call_places.specs.declared.Free.the-variants as F
 use Rattle.call_fpb.specs.declared.FpbCall.{FpbCall}
 use Rattle.call_fpb.specs.declared.FpbCall.the-variants as N
 

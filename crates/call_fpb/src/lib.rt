@@ -8,8 +8,7 @@ ghost use Prim.Native.Nat.{_-_};
 ghost use Rattle.call.specs.Laws.Asks.{asks, opThen};
 ghost use Rattle.call.specs.Job.{ends};
 ghost use Rattle.call_fpb.specs.Breakpoint.{fpbJob, numCode, revision, fpbCompValue, breakable, comparator, firstFree, takeFree, seek, find};
-ghost use Rattle.call_fpb.specs.Laws.After.{fpbAfter, phaseAfter, fpbAtOf, goesOn, found, enabling, counting, afterSeek, afterFind};
-ghost use Rattle.call_fpb.specs.declared.FpbAt.the-variants.{Seek};
+ghost use Rattle.call_fpb.specs.Laws.After.{fpbAfter, phaseAfter, goesOn, found, enabling, counting, afterSeek, afterFind};
 
 mod fpb;
 
@@ -17,6 +16,8 @@ use call::Asks;
 use call::Change;
 use call::Next;
 use call_at::At;
+use call_places::FpbAt;
+use call_places::Free;
 use wire::Outcome;
 use wire_memap::Op;
 
@@ -30,43 +31,6 @@ pub enum FpbCall {
 pub enum CompValue {
     None,
     Some(u32),
-}
-
-// The first free comparator that was found.
-pub enum Free {
-    Nowhere,
-    At(u8),
-}
-
-// Which operation of a call is in flight. `left` of `n` comparators are still to come, the one in flight among them.
-// `Write`: the last operation of a call that then answers yes.
-pub enum FpbAt {
-    SetCtrl(u32),
-    Enable {
-        value: u32,
-        n: u8,
-    },
-    Seek {
-        value: u32,
-        n: u8,
-        left: u8,
-        free: Free,
-    },
-    Revision {
-        clears: bool,
-        addr: u32,
-    },
-    Count {
-        clears: bool,
-        value: u32,
-    },
-    Find {
-        clears: bool,
-        value: u32,
-        n: u8,
-        left: u8,
-    },
-    Write,
 }
 
 // How many comparators FP_CTRL says there are: bits 14:12 and 7:4.
@@ -106,107 +70,6 @@ fn comparator_at(i: u8) -> u32
     fpb::FP_COMP0 + 4 * (i as u32)
 }
 
-// A search for a comparator, in numbers.
-fn pack_seek(value: u32, n: u8, left: u8, free: Free) -> At
-    ensures { λ r. ⌜ fpbAtOf r ≡ Seek value n left free ⌝ }
-{
-    let n = wire::wide(n);
-    let left = wire::wide(left);
-    match free {
-        Free::Nowhere => call_at::at_step(2, value, n, left, 0, 0),
-        Free::At(i) => call_at::at_step(3, value, n, left, wire::wide(i), 0),
-    }
-}
-
-// Which operation is in flight, in numbers.
-fn pack(p: FpbAt) -> At
-    ensures { λ r. ⌜ fpbAtOf r ≡ p ⌝ }
-{
-    match p {
-        FpbAt::SetCtrl(addr) => call_at::at_step(0, addr, 0, 0, 0, 0),
-        FpbAt::Enable { value, n } => call_at::at_step(1, value, wire::wide(n), 0, 0, 0),
-        FpbAt::Seek {
-            value,
-            n,
-            left,
-            free,
-        } => pack_seek(value, n, left, free),
-        FpbAt::Revision { clears, addr } => call_at::at_step(
-            4,
-            addr,
-            0,
-            0,
-            call_at::flag(clears),
-            0,
-        ),
-        FpbAt::Count { clears, value } => call_at::at_step(
-            5,
-            value,
-            0,
-            0,
-            call_at::flag(clears),
-            0,
-        ),
-        FpbAt::Find {
-            clears,
-            value,
-            n,
-            left,
-        } => call_at::at_step(
-            6,
-            value,
-            wire::wide(n),
-            wire::wide(left),
-            call_at::flag(clears),
-            0,
-        ),
-        FpbAt::Write => call_at::at_step(7, 0, 0, 0, 0, 0),
-    }
-}
-
-// Which operation is in flight.
-fn unpack(at: At) -> FpbAt
-    ensures { λ r. ⌜ r ≡ fpbAtOf at ⌝ }
-{
-    let value = at.a;
-    let n = (at.b % 256) as u8;
-    let left = (at.c % 256) as u8;
-    let i = (at.d % 256) as u8;
-    let clears = at.d == 1;
-    let phase = at.step % 32;
-    match phase {
-        0 => FpbAt::SetCtrl(value),
-        1 => FpbAt::Enable { value: value, n: n },
-        2 => FpbAt::Seek {
-            value: value,
-            n: n,
-            left: left,
-            free: Free::Nowhere,
-        },
-        3 => FpbAt::Seek {
-            value: value,
-            n: n,
-            left: left,
-            free: Free::At(i),
-        },
-        4 => FpbAt::Revision {
-            clears: clears,
-            addr: value,
-        },
-        5 => FpbAt::Count {
-            clears: clears,
-            value: value,
-        },
-        6 => FpbAt::Find {
-            clears: clears,
-            value: value,
-            n: n,
-            left: left,
-        },
-        _ => FpbAt::Write,
-    }
-}
-
 // The call ends.
 fn ended(o: Outcome) -> Asks
     ensures { λ r. ⌜ ends o ≡ asks (r .change) (r .next) (fpbAfter (r .at)) ⌝ }
@@ -224,7 +87,7 @@ fn doing(at: FpbAt, op: Op) -> Asks
 {
     Asks {
         change: Change::Nothing,
-        at: pack(at),
+        at: call_places::pack_fpb(at),
         next: Next::Do(op),
     }
 }
@@ -434,7 +297,7 @@ pub fn call_after(at: At, o: Outcome) -> Asks
     ensures { λ r. ⌜ fpbAfter at o ≡ asks (r .change) (r .next) (fpbAfter (r .at)) ⌝ }
 {
     match o {
-        Outcome::Value(v) => value_after(unpack(at), v),
+        Outcome::Value(v) => value_after(call_places::unpack_fpb(at), v),
         Outcome::Failed(e) => ended(Outcome::Failed(e)),
     }
 }

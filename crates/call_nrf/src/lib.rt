@@ -9,9 +9,9 @@ ghost use Rattle.wire_memap.specs.Words.{tarRun};
 ghost use Rattle.call.specs.Laws.Asks.{asks, opThen};
 ghost use Rattle.call.specs.Job.{ends};
 ghost use Rattle.call_nrf.specs.Nrf.{nrfJob, nrf52ApprotectStatus, nrf54ApprotectStatus, readStatus, softReset, pollErased, eraseAll, nrf52ErasePage, programmable};
-ghost use Rattle.call_nrf.specs.Laws.After.{nrfAfter, phaseAfter, nrfAtOf, chipOf, stepOf, flashOf, goesOn, onPort, leaves, afterErased, releasing, released};
+ghost use Rattle.call_nrf.specs.Laws.After.{nrfAfter, phaseAfter, goesOn, onPort, leaves, afterErased, releasing, released};
 ghost use Rattle.call_nrf.specs.Laws.After.{config, ready, closing, writes, finishing, programming, flashing, waiting, afterReady, flashAfter, enabling};
-ghost use Rattle.call_nrf.specs.declared.NrfAt.the-variants as P;
+ghost use Rattle.call_places.specs.declared.NrfAt.the-variants as P;
 
 mod nrf52;
 mod nrf54;
@@ -20,6 +20,11 @@ use call::Asks;
 use call::Change;
 use call::Next;
 use call_at::At;
+use call_places::Chip;
+use call_places::Flash;
+use call_places::FlashStep;
+use call_places::NrfAt;
+use call_places::Program;
 use wire::ArmError;
 use wire::Outcome;
 use wire_memap::Op;
@@ -33,65 +38,6 @@ pub enum NrfCall {
     Nrf54ApprotectStatus,
     Nrf54EraseAll(u32),
     Nrf54Program { addr: u32, polls: u32 },
-}
-
-pub enum Chip {
-    Nrf52,
-    Nrf54,
-}
-
-// `left` of `len` words to go, up to the address `stop`; each wait has `polls` reads.
-pub struct Program {
-    pub stop: u32,
-    pub len: u32,
-    pub left: u32,
-    pub polls: u32,
-}
-
-// What is done next with the flash: a page is erased, words are written, or it is closed for writing.
-pub enum Flash {
-    Page { page: u32, polls: u32 },
-    Words(Program),
-    Close,
-}
-
-// What waits for the flash before `then`. `Settle`: a write, after which so many reads wait for READY. `Wait`: one of these, with
-// so many more. `Next`: a write with no wait after it.
-pub enum FlashStep {
-    Settle(u32),
-    Wait(u32),
-    Next,
-}
-
-// Which operation of a call is in flight. `Last`: the call's last write.
-pub enum NrfAt {
-    Idr,
-    Status(bool),
-    EraseAll(u32),
-    Erasing(u32),
-    Reset(bool),
-    Release(bool),
-    Flash {
-        step: FlashStep,
-        chip: Chip,
-        then: Flash,
-    },
-    Last,
-}
-
-// A step of the flash in numbers: which one it is, and its count.
-struct StepNumbers {
-    kind: u32,
-    count: u32,
-}
-
-// What is done next with the flash, in numbers.
-struct FlashNumbers {
-    kind: u32,
-    b: u32,
-    c: u32,
-    d: u32,
-    e: u32,
 }
 
 // As many addresses as a target has: 2^32.
@@ -118,147 +64,6 @@ fn tar_run(addr: u32, words: u32) -> u32
     words
 }
 
-fn chip_number(chip: Chip) -> u32
-    ensures { λ r. ⌜ (chipOf r ≡ chip) × (r < 2) ⌝ }
-{
-    match chip {
-        Chip::Nrf52 => 0,
-        Chip::Nrf54 => 1,
-    }
-}
-
-fn chip_of(n: u32) -> Chip
-    ensures { λ r. ⌜ r ≡ chipOf n ⌝ }
-{
-    match n {
-        0 => Chip::Nrf52,
-        _ => Chip::Nrf54,
-    }
-}
-
-fn step_numbers(step: FlashStep) -> StepNumbers
-    ensures { λ r. ⌜ (stepOf (r .kind) (r .count) ≡ step) × (r .kind < 4) ⌝ }
-{
-    match step {
-        FlashStep::Settle(polls) => StepNumbers {
-            kind: 0,
-            count: polls,
-        },
-        FlashStep::Wait(left) => StepNumbers {
-            kind: 1,
-            count: left,
-        },
-        FlashStep::Next => StepNumbers { kind: 2, count: 0 },
-    }
-}
-
-fn step_of(kind: u32, count: u32) -> FlashStep
-    ensures { λ r. ⌜ r ≡ stepOf kind count ⌝ }
-{
-    match kind {
-        0 => FlashStep::Settle(count),
-        1 => FlashStep::Wait(count),
-        _ => FlashStep::Next,
-    }
-}
-
-fn flash_numbers(then: Flash) -> FlashNumbers
-    ensures { λ r. ⌜ (flashOf (r .kind) (r .b) (r .c) (r .d) (r .e) ≡ then) × (r .kind < 4) ⌝ }
-{
-    match then {
-        Flash::Page { page, polls } => FlashNumbers {
-            kind: 0,
-            b: page,
-            c: 0,
-            d: 0,
-            e: polls,
-        },
-        Flash::Words(p) => FlashNumbers {
-            kind: 1,
-            b: p.stop,
-            c: p.len,
-            d: p.left,
-            e: p.polls,
-        },
-        Flash::Close => FlashNumbers {
-            kind: 2,
-            b: 0,
-            c: 0,
-            d: 0,
-            e: 0,
-        },
-    }
-}
-
-fn flash_of(kind: u32, b: u32, c: u32, d: u32, e: u32) -> Flash
-    ensures { λ r. ⌜ r ≡ flashOf kind b c d e ⌝ }
-{
-    match kind {
-        0 => Flash::Page { page: b, polls: e },
-        1 => Flash::Words(Program {
-            stop: b,
-            len: c,
-            left: d,
-            polls: e,
-        }),
-        _ => Flash::Close,
-    }
-}
-
-// The number of an operation of the flash: its step counts by 8, the chip by 64, what is done then by 256.
-fn flash_number(step: u32, chip: u32, then: u32) -> u32
-    requires { ⌜ (step < 4) × (chip < 2) × (then < 4) ⌝ }
-    ensures { λ r. ⌜ (r % 8 ≡ 6) × (r / 8 % 4 ≡ step) × (r / 64 % 2 ≡ chip) × (r / 256 % 4 ≡ then) ⌝ }
-{
-    6 + 8 * step + 64 * chip + 256 * then
-}
-
-fn pack_flash(step: FlashStep, chip: Chip, then: Flash) -> At
-    ensures { λ r. ⌜ nrfAtOf r ≡ P.Flash step chip then ⌝ }
-{
-    let s = step_numbers(step);
-    let c = chip_number(chip);
-    let f = flash_numbers(then);
-    call_at::at_step(flash_number(s.kind, c, f.kind), s.count, f.b, f.c, f.d, f.e)
-}
-
-// Which operation is in flight, in numbers.
-fn pack(p: NrfAt) -> At
-    ensures { λ r. ⌜ nrfAtOf r ≡ p ⌝ }
-{
-    match p {
-        NrfAt::Idr => call_at::at_step(0, 0, 0, 0, 0, 0),
-        NrfAt::Status(known) => call_at::at_step(1, call_at::flag(known), 0, 0, 0, 0),
-        NrfAt::EraseAll(polls) => call_at::at_step(2, polls, 0, 0, 0, 0),
-        NrfAt::Erasing(left) => call_at::at_step(3, left, 0, 0, 0, 0),
-        NrfAt::Reset(erased) => call_at::at_step(4, call_at::flag(erased), 0, 0, 0, 0),
-        NrfAt::Release(erased) => call_at::at_step(5, call_at::flag(erased), 0, 0, 0, 0),
-        NrfAt::Flash { step, chip, then } => pack_flash(step, chip, then),
-        NrfAt::Last => call_at::at_step(7, 0, 0, 0, 0, 0),
-    }
-}
-
-// Which operation is in flight.
-fn unpack(at: At) -> NrfAt
-    ensures { λ r. ⌜ r ≡ nrfAtOf at ⌝ }
-{
-    let n = at.step % 8;
-    match n {
-        0 => NrfAt::Idr,
-        1 => NrfAt::Status(at.a == 1),
-        2 => NrfAt::EraseAll(at.a),
-        3 => NrfAt::Erasing(at.a),
-        4 => NrfAt::Reset(at.a == 1),
-        5 => NrfAt::Release(at.a == 1),
-        6 => NrfAt::Flash {
-            step: step_of(at.step / 8 % 4, at.a),
-            chip: chip_of(at.step / 64 % 2),
-            then: flash_of(at.step / 256 % 4, at.b, at.c, at.d, at.e),
-        },
-        _ => NrfAt::Last,
-    }
-}
-
 // The call ends.
 fn ended(o: Outcome) -> Asks
     ensures { λ r. ⌜ ends o ≡ asks (r .change) (r .next) (nrfAfter (r .at)) ⌝ }
@@ -277,7 +82,7 @@ fn doing(at: NrfAt, op: Op) -> Asks
 {
     Asks {
         change: Change::Nothing,
-        at: pack(at),
+        at: call_places::pack_nrf(at),
         next: Next::Do(op),
     }
 }
@@ -288,7 +93,7 @@ fn selecting(ap: u8, at: NrfAt, op: Op) -> Asks
 {
     Asks {
         change: Change::Apsel(ap),
-        at: pack(at),
+        at: call_places::pack_nrf(at),
         next: Next::Do(op),
     }
 }
@@ -714,7 +519,7 @@ pub fn call_after(at: At, o: Outcome) -> Asks
     ensures { λ r. ⌜ nrfAfter at o ≡ asks (r .change) (r .next) (nrfAfter (r .at)) ⌝ }
 {
     match o {
-        Outcome::Value(v) => value_after(unpack(at), v),
+        Outcome::Value(v) => value_after(call_places::unpack_nrf(at), v),
         Outcome::Failed(e) => ended(Outcome::Failed(e)),
     }
 }

@@ -21,8 +21,8 @@ use Rattle.call_core.specs.declared.CoreCall.the-variants as K
 use Rattle.call_fpb.specs.Breakpoint.{fpbJob, yes, no, numCode, revision, fpbCompValue, breakable, firstFree, takeFree, seek, find, lookUp, clear}
 use Rattle.call_fpb.specs.declared.CompValue.{CompValue}
 use Rattle.call_fpb.specs.declared.CompValue.the-variants as P
-use Rattle.call_fpb.specs.declared.Free.{Free}
-use Rattle.call_fpb.specs.declared.Free.the-variants as F
+use Rattle.call_places.specs.declared.Free.{Free}
+use Rattle.call_places.specs.declared.Free.the-variants as F
 use Rattle.call_fpb.specs.declared.FpbCall.{FpbCall}
 use Rattle.call_fpb.specs.declared.FpbCall.the-variants as B
 use Rattle.engine_calls.specs.Calls.{jobOf}

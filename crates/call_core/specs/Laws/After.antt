@@ -9,7 +9,7 @@ use Rattle.wire.specs.declared.Outcome.the-variants.{Value, Failed}
 use Rattle.call.specs.Job.{Job, ends, attempt, orFail, _>>=_, _>>_, return, fail, keeping, readWord, writeWord}
 use Rattle.call_at.specs.declared.At.{At}
 use Rattle.call.specs.declared.Change.the-variants as C
-use Rattle.call_core_at.specs.Laws.At.{coreAtOf}
+use Rattle.call_places.specs.Laws.Core.{coreAtOf}
 use Rattle.call_core.specs.Cortex.{DHCSR, DCRDR, DBGKEY, C-DEBUGEN, C-HALT, S-REGRDY, S-HALT, status, stands, R0}
 use Rattle.call_core.specs.Core.{POLLS, waitStatus, readCoreReg, storeCoreReg}
 use Rattle.call_core.specs.Function.{
@@ -25,20 +25,20 @@ use Rattle.call_core.specs.Function.{
   finishFunction,
   BKPT-TWICE,
 }
-use Rattle.call_core_at.specs.declared.Wait.{Wait}
-use Rattle.call_core_at.specs.declared.Wait.the-variants as W
-use Rattle.call_core_at.specs.declared.AccessAt.{AccessAt}
-use Rattle.call_core_at.specs.declared.AccessAt.the-variants as A
-use Rattle.call_core_at.specs.declared.Search.{Search}
-use Rattle.call_core_at.specs.declared.FindStep.{FindStep}
-use Rattle.call_core_at.specs.declared.FindStep.the-variants as F
-use Rattle.call_core_at.specs.declared.Plan.{Plan}
-use Rattle.call_core_at.specs.declared.Then.{Then}
-use Rattle.call_core_at.specs.declared.Then.the-variants as T
-use Rattle.call_core_at.specs.declared.RunStep.{RunStep}
-use Rattle.call_core_at.specs.declared.RunStep.the-variants as R
-use Rattle.call_core_at.specs.declared.CoreAt.{CoreAt}
-use Rattle.call_core_at.specs.declared.CoreAt.the-variants as P
+use Rattle.call_places.specs.declared.Wait.{Wait}
+use Rattle.call_places.specs.declared.Wait.the-variants as W
+use Rattle.call_places.specs.declared.AccessAt.{AccessAt}
+use Rattle.call_places.specs.declared.AccessAt.the-variants as A
+use Rattle.call_places.specs.declared.Search.{Search}
+use Rattle.call_places.specs.declared.FindStep.{FindStep}
+use Rattle.call_places.specs.declared.FindStep.the-variants as F
+use Rattle.call_places.specs.declared.Plan.{Plan}
+use Rattle.call_places.specs.declared.Then.{Then}
+use Rattle.call_places.specs.declared.Then.the-variants as T
+use Rattle.call_places.specs.declared.RunStep.{RunStep}
+use Rattle.call_places.specs.declared.RunStep.the-variants as R
+use Rattle.call_places.specs.declared.CoreAt.{CoreAt}
+use Rattle.call_places.specs.declared.CoreAt.the-variants as P
 use Rattle.call_core.specs.declared.Function.{Function}
 
 -- Calls 15 to 21: an access to the core

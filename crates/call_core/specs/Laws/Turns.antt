@@ -30,10 +30,10 @@ use Rattle.call_core.specs.Function.{
   clobbered,
 }
 use Rattle.call_core.specs.Laws.After.{bitOf, waiting, polled, entryOf, matching, looking, looked, released, setting, planting, saving, restoring, beginning}
-use Rattle.call_core_at.specs.declared.Wait.{Wait}
-use Rattle.call_core_at.specs.declared.Wait.the-variants as W
-use Rattle.call_core_at.specs.declared.Search.{Search}
-use Rattle.call_core_at.specs.declared.Plan.{Plan}
+use Rattle.call_places.specs.declared.Wait.{Wait}
+use Rattle.call_places.specs.declared.Wait.the-variants as W
+use Rattle.call_places.specs.declared.Search.{Search}
+use Rattle.call_places.specs.declared.Plan.{Plan}
 use Rattle.call_core.specs.declared.Function.{Function}
 
 none : (n : ℕ) → 0 + n ≡ n

@@ -7,5 +7,5 @@ pub call-after-spec : {M : Type 1} → statement M
 call-after-spec =
     tie.close (tie.spec
     (λ c. search needs) (λ c κs. tt) (λ c κs. tt) (λ c. search needs) (λ c κs. tt)
-    (λ c. simp (c .before .before .before .o .given .1) (simp (← c .before .unpack .ensures) (c .value-after .ensures)))
+    (λ c. simp (c .before .before .before .o .given .1) (simp (← c .before .unpack-fpb .ensures) (c .value-after .ensures)))
     (λ c. simp (c .before .before .o2 .given .1) (c .ended .ensures)))

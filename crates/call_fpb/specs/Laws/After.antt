@@ -11,6 +11,7 @@ use Rattle.wire.specs.declared.Outcome.the-variants.{Value, Failed}
 use Rattle.wire_memap.specs.declared.Op.the-variants as O
 use Rattle.call.specs.Job.{Job, op, _>>=_, _>>_, fail, writeWord}
 use Rattle.call_at.specs.declared.At.{At}
+use Rattle.call_places.specs.Laws.Fpb.{fpbAtOf}
 use Rattle.call_fpb.specs.Fpb as fpb
 use Rattle.call_fpb.specs.Breakpoint.{
   yes,
@@ -27,10 +28,10 @@ use Rattle.call_fpb.specs.Breakpoint.{
   find,
   clear,
 }
-use Rattle.call_fpb.specs.declared.Free.{Free}
-use Rattle.call_fpb.specs.declared.Free.the-variants as F
-use Rattle.call_fpb.specs.declared.FpbAt.{FpbAt}
-use Rattle.call_fpb.specs.declared.FpbAt.the-variants as A
+use Rattle.call_places.specs.declared.Free.{Free}
+use Rattle.call_places.specs.declared.Free.the-variants as F
+use Rattle.call_places.specs.declared.FpbAt.{FpbAt}
+use Rattle.call_places.specs.declared.FpbAt.the-variants as A
 
 -- what a comparator that was found leads to
 abbrev pub found : Bool → ℕ → Job
@@ -63,21 +64,6 @@ goesOn A.Write v = yes
 abbrev pub phaseAfter : FpbAt → Outcome → Job
 phaseAfter p (Value v) = goesOn p v
 phaseAfter p (Failed e) = fail e
-
--- what the numbers of a call in flight say
-abbrev pub phases : At → List FpbAt
-phases at =
-    A.SetCtrl (at .a)
-    ∷ A.Enable (at .a) (at .b % 256)
-    ∷ A.Seek (at .a) (at .b % 256) (at .c % 256) F.Nowhere
-    ∷ A.Seek (at .a) (at .b % 256) (at .c % 256) (F.At (at .d % 256))
-    ∷ A.Revision (eqb (at .d) 1) (at .a)
-    ∷ A.Count (eqb (at .d) 1) (at .a)
-    ∷ A.Find (eqb (at .d) 1) (at .a) (at .b % 256) (at .c % 256)
-    ∷ []
-
-abbrev pub fpbAtOf : At → FpbAt
-fpbAtOf at = getD (phases at) (at .step % 32) A.Write
 
 abbrev pub fpbAfter : At → Outcome → Job
 fpbAfter at o = phaseAfter (fpbAtOf at) o

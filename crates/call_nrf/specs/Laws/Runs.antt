@@ -8,8 +8,8 @@ use Rattle.call.specs.Job.{Job, _>>_}
 use Rattle.call.specs.Laws.Job.{bind-assoc}
 use Rattle.call_nrf.specs.Nrf.{runs, writeWords}
 use Rattle.call_nrf.specs.Laws.After.{programming, settling, finishing}
-use Rattle.call_nrf.specs.declared.Chip.{Chip}
-use Rattle.call_nrf.specs.declared.Program.{Program}
+use Rattle.call_places.specs.declared.Chip.{Chip}
+use Rattle.call_places.specs.declared.Program.{Program}
 
 -- the words that are passed are to go no more
 runs-passed : (settle : Job) (stop len left passed : ℕ) → passed ≤ left → runs settle stop len left passed ≡ runs settle stop len (left - passed) 0

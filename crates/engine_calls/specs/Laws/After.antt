@@ -14,7 +14,7 @@ use Rattle.call.specs.declared.Asks.{Asks}
 use Rattle.call_at.specs.declared.At.{At}
 use Rattle.call_connect.specs.Laws.After as Connect
 use Rattle.call_memory.specs.Laws.After as Mem
-use Rattle.call_core_at.specs.Laws.At.{coreAtOf}
+use Rattle.call_places.specs.Laws.Core.{coreAtOf}
 use Rattle.call_core.specs.Laws.After as Core
 use Rattle.call_fpb.specs.Laws.After as Fpb
 use Rattle.call_nrf.specs.Laws.After as Nrf
