@@ -15,6 +15,8 @@ use Rattle.call_at.specs.declared.At.{At}
 use Rattle.call_connect.specs.Laws.After as Connect
 use Rattle.call_memory.specs.Laws.After as Mem
 use Rattle.call_places.specs.Laws.Core.{coreAtOf}
+use Rattle.call_places.specs.Laws.Fpb.{fpbAtOf}
+use Rattle.call_places.specs.Laws.Nrf.{nrfAtOf}
 use Rattle.call_core.specs.Laws.After as Core
 use Rattle.call_fpb.specs.Laws.After as Fpb
 use Rattle.call_nrf.specs.Laws.After as Nrf
@@ -83,13 +85,13 @@ core-same at = simp (by-8 2 (at .step), eighths 2 (at .step))
 pub core-in : (at : At) → callAfter (inGroup 2 at) ≡ Core.coreAfter at
 core-in at = ap (λ (k : ℕ). byGroup k (inGroup 2 at)) (group-is 2 (at .step)) ∙ ap Core.phaseAfter (core-same at)
 
-fpb-same : (at : At) → Fpb.fpbAtOf (inGroup 3 at) ≡ Fpb.fpbAtOf at
+fpb-same : (at : At) → fpbAtOf (inGroup 3 at) ≡ fpbAtOf at
 fpb-same at = simp (by-32 3 (at .step))
 
 pub fpb-in : (at : At) → callAfter (inGroup 3 at) ≡ Fpb.fpbAfter at
 fpb-in at = ap (λ (k : ℕ). byGroup k (inGroup 3 at)) (group-is 3 (at .step)) ∙ ap Fpb.phaseAfter (fpb-same at)
 
-nrf-same : (at : At) → Nrf.nrfAtOf (inGroup 4 at) ≡ Nrf.nrfAtOf at
+nrf-same : (at : At) → nrfAtOf (inGroup 4 at) ≡ nrfAtOf at
 nrf-same at = simp (by-8 4 (at .step), flash-step 4 (at .step), flash-chip 4 (at .step), flash-then 4 (at .step))
 
 pub nrf-in : (at : At) → callAfter (inGroup 4 at) ≡ Nrf.nrfAfter at
