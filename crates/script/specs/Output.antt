@@ -13,7 +13,7 @@ use Rattle.engine_calls.specs.Calls.{callTree, rowFor, frameOf, wordsLeft, fram
 use Rattle.engine_run.specs.Run.{within}
 use Rattle.script_lines.specs.declared.Shown.{Shown}
 use Rattle.script_lines.specs.declared.Shown.the-variants as S
-use Rattle.script_lines.specs.Listing.{callLines, resultLine, shownText}
+use Rattle.script_lines.specs.Listing.{callLines, resultLine, shownText, malformedText}
 use Rattle.script_form.specs.BigEndian.{byte}
 use Rattle.script_request.specs.Request.{requestOf, wordsOf, bytesOf}
 use Rattle.script_form.specs.Script.{wellFormed, arguments, answers}
@@ -21,10 +21,6 @@ use Rattle.script_request.specs.declared.Buffer.{Buffer}
 use Rattle.script_request.specs.declared.Buffer.the-variants as B
 use Rattle.script_request.specs.declared.Request.{Request}
 use Rattle.script_request.specs.declared.Request.the-variants.{Malformed, Asked}
-
--- 01's Script is 13
-abbrev pub malformedText : List ℕ
-malformedText = resultLine (record { number = 13; value = 0 })
 
 -- what is shown behind the result: of calls 11 and 13 the buffer, however they ended; of call 23 its frame if it succeeds
 abbrev pub shownOf : CallEnding → Buffer → Shown

@@ -10,7 +10,7 @@ ghost use Rattle.engine_calls.specs.Calls.{frameOf};
 ghost use Rattle.script_lines.specs.Listing.{runLines};
 ghost use Rattle.script_lines.specs.Laws.Puts.{Puts};
 ghost use Rattle.script_form.specs.Script.{callEnd, answerCount, answerAt};
-ghost use Rattle.script.specs.Output.{malformedText, shownOf, isFrame, performed, requestText, scriptText, outputOf};
+ghost use Rattle.script.specs.Output.{shownOf, isFrame, performed, requestText, scriptText, outputOf};
 ghost use Rattle.script.specs.Laws.Lending.{zeros, Zeros, wordCount, byteCount};
 ghost use Rattle.script_form.specs.Laws.Sizes.{Sizes};
 use engine_calls::EngineCall;
@@ -204,18 +204,6 @@ fn perform(
     put_performed(out, &log[..n], e, b, &frame, words, buf)
 }
 
-fn put_malformed(out: &mut [u8]) -> usize
-    ensures { λ r. ⌜ Puts (now (out .entry)) 0 malformedText (now (out .exit)) r × (r ≤ 20) ⌝ }
-{
-    script_lines::put_ending(
-        out,
-        CallEnding {
-            number: 13,
-            value: 0,
-        },
-    )
-}
-
 // How many of n bytes stand behind the first `size`.
 fn behind(n: usize, size: usize) -> usize
     ensures { λ r. ⌜ r ≡ n - size ⌝ }
@@ -323,7 +311,7 @@ fn put_script(input: &[u8], out: &mut [u8]) -> usize
     let end = 3 + (half(input, 1) as usize);
     let request = script_request::request_of(byte(input, 3), &input[4..end]);
     match request {
-        Request::Malformed => put_malformed(out),
+        Request::Malformed => script_lines::put_malformed(out),
         Request::Asked(c, b) => answered(c, b, input, end, out),
     }
 }
@@ -337,5 +325,5 @@ pub fn dapscript(input: &[u8], out: &mut [u8]) -> usize
     if script_form::well_formed(input) {
         return put_script(input, out);
     }
-    put_malformed(out)
+    script_lines::put_malformed(out)
 }

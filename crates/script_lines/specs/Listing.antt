@@ -39,6 +39,10 @@ callLines number (c ∷ cs) = callLine number c ++ callLines (suc number) cs
 abbrev pub resultLine : CallEnding → List ℕ
 resultLine e = decimal (e .number) ++ (space ∷ (hexWord (e .value) ++ (newline ∷ [])))
 
+-- what is printed for bytes that are no script: 01's Script is 13
+abbrev pub malformedText : List ℕ
+malformedText = resultLine (record { number = 13; value = 0 })
+
 -- `D`, and a space if n numbers follow
 abbrev pub dataStart : ℕ → List ℕ
 dataStart zero = 0x44 ∷ []

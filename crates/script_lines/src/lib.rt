@@ -8,7 +8,7 @@ ghost use Rattle.wire.specs.Bytes.{handed};
 ghost use Rattle.wire_numbers.specs.Numbers.{numbersOf};
 ghost use Rattle.wire_numbers.specs.Log.{callOf};
 ghost use Rattle.script_lines.specs.Text.{space, digit, digits, decimal, hex, hexByte, hexWord, together};
-ghost use Rattle.script_lines.specs.Listing.{bitsText, callText, callLine, callLines, resultLine, dataStart, dataLine, shownText, listed};
+ghost use Rattle.script_lines.specs.Listing.{bitsText, callText, callLine, callLines, resultLine, malformedText, dataStart, dataLine, shownText, listed};
 ghost use Rattle.script_lines.specs.Laws.Puts.{Puts};
 use wire::Call;
 use wire_numbers::CallEnding;
@@ -266,10 +266,14 @@ fn put_shown(out: &mut [u8], at: usize, s: Shown, words: &[u32], buf: &[u8]) -> 
     }
 }
 
-// The listing of a call that made no transport call.
-pub fn put_ending(out: &mut [u8], e: CallEnding) -> usize
-    ensures { λ r. ⌜ Puts (now (out .entry)) 0 (resultLine e) (now (out .exit)) r × (r ≤ 20) ⌝ }
+// What is printed for bytes that are no script.
+pub fn put_malformed(out: &mut [u8]) -> usize
+    ensures { λ r. ⌜ Puts (now (out .entry)) 0 malformedText (now (out .exit)) r × (r ≤ 20) ⌝ }
 {
+    let e = CallEnding {
+        number: 13,
+        value: 0,
+    };
     put_result(out, 0, e)
 }
 

@@ -5,13 +5,17 @@ ghost use mathlib.Core.Path.{_≡_};
 ghost use Prim.Native.Nat.{ℕ};
 ghost use lib.ListN.{replicate};
 ghost use Rattle.wire.specs.Wire.{Wire, follow};
-ghost use Rattle.engine_calls.specs.Calls.{leave, rowFor};
+ghost use Rattle.engine_calls.specs.Calls.{coreFrame, leave, rowFor};
 ghost use Rattle.engine.specs.Laws.State.{stateTree};
 ghost use Rattle.engine.specs.Step.{Steps};
-ghost use Rattle.session_rules.specs.Session.{closed, kindOf, frameBy, sessionTree};
+ghost use Rattle.session_rules.specs.Admits.{engineCall};
+ghost use Rattle.session_rules.specs.Session.{closed, kindBy, kindOf, frameBy, sessionTree};
 ghost use Rattle.session_phase.specs.declared.Phase.the-variants.{Closed};
 ghost use Rattle.session.specs.Step.{standing, lostBy, Answers, Refused, Started, Stepped};
 ghost use Rattle.session.specs.Laws.Ends.{phaseFor, frameAt};
+use call_connect::ConnectCall;
+use call_core::CoreCall;
+use call_memory::MemoryCall;
 use engine::NextStep;
 use engine::State;
 use engine::StepAnswer;
@@ -43,6 +47,47 @@ pub struct Reply {
 pub struct SessionAnswer {
     pub session: Session,
     pub reply: Reply,
+}
+
+// The engine's call that a session's call is.
+fn engine_call(c: SessionCall) -> EngineCall
+    ensures { λ r. ⌜ r ≡ engineCall c ⌝ }
+{
+    match c {
+        SessionCall::ConnectSwd => EngineCall::Connect(ConnectCall::ConnectSwd),
+        SessionCall::ReadWord(addr) => EngineCall::Memory(MemoryCall::ReadWord(addr)),
+        SessionCall::WriteWord(addr, word) => EngineCall::Memory(MemoryCall::WriteWord(addr, word)),
+        SessionCall::ReadMem(addr) => EngineCall::Memory(MemoryCall::ReadMem(addr)),
+        SessionCall::WriteMem(addr) => EngineCall::Memory(MemoryCall::WriteMem(addr)),
+        SessionCall::Core(q) => EngineCall::Core(q),
+        SessionCall::Fpb(q) => EngineCall::Fpb(q),
+    }
+}
+
+// Call 23 alone leaves a frame.
+fn core_kind(c: CoreCall) -> Kind
+    ensures { λ r. ⌜ r ≡ kindBy (coreFrame c) ⌝ }
+{
+    match engine_calls::frame_for(EngineCall::Core(c)) {
+        Frame::Nowhere => Kind::Plain,
+        Frame::Found => Kind::Plain,
+        Frame::Left => Kind::Frame,
+    }
+}
+
+// What the end of a call needs to know of it.
+fn kind_of(c: SessionCall) -> Kind
+    ensures { λ r. ⌜ r ≡ kindOf c ⌝ }
+{
+    match c {
+        SessionCall::ConnectSwd => Kind::Connect,
+        SessionCall::ReadWord(_) => Kind::Plain,
+        SessionCall::WriteWord(_, _) => Kind::Plain,
+        SessionCall::ReadMem(_) => Kind::Plain,
+        SessionCall::WriteMem(_) => Kind::Plain,
+        SessionCall::Core(q) => core_kind(q),
+        SessionCall::Fpb(_) => Kind::Plain,
+    }
 }
 
 // The row that a call runs over: zeros, and for call 24 the frame that 23 left.
@@ -141,7 +186,7 @@ fn begun(s: Session, c: SessionCall, buf: &mut [u8]) -> SessionAnswer
         (r .session) (r .reply) (now (buf .exit)) ⌝ }
 {
     let frame = s.frame;
-    let e = session_rules::engine_call(c);
+    let e = engine_call(c);
     let r = session_phase::remembered_for(
         session_rules::is_connect(c),
         engine::remembered(s.state),
@@ -149,7 +194,7 @@ fn begun(s: Session, c: SessionCall, buf: &mut [u8]) -> SessionAnswer
     let mut row = row_of(e, frame);
     let mut none = [0u32; 0];
     let x = engine::start(r, e, &mut row, &mut none, buf);
-    let kind = session_rules::kind_of(c);
+    let kind = kind_of(c);
     settled(kind, false, frame, row, x)
 }
 

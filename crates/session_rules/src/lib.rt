@@ -3,16 +3,9 @@ ghost use mathlib.Core.Bool.{not};
 ghost use mathlib.Core.Path.{_≡_};
 ghost use Prim.Native.Nat.{_+_};
 ghost use lib.Dec.{leb};
-ghost use Rattle.session_rules.specs.Admits.{engineCall, isConnect, breakpoint, aligned, ranged, admitted, refusal, refusalNumber};
-ghost use Rattle.engine_calls.specs.Calls.{coreFrame};
-ghost use Rattle.session_rules.specs.Session.{kindBy, kindOf};
-use call_connect::ConnectCall;
+ghost use Rattle.session_rules.specs.Admits.{isConnect, breakpoint, aligned, ranged, admitted, refusal, refusalNumber};
 use call_core::CoreCall;
 use call_fpb::FpbCall;
-use call_memory::MemoryCall;
-use engine_calls::EngineCall;
-use engine_calls::Frame;
-use session_phase::Kind;
 
 // Calls 3, 9, 10, 13, 14, 15 to 25 and 26 to 28.
 pub enum SessionCall {
@@ -46,21 +39,6 @@ pub fn refusal_number(x: Refusal) -> u8
         Refusal::NoSession => 10,
         Refusal::Align => 9,
         Refusal::Range => 8,
-    }
-}
-
-// The engine's call that a session's call is.
-pub fn engine_call(c: SessionCall) -> EngineCall
-    ensures { λ r. ⌜ r ≡ engineCall c ⌝ }
-{
-    match c {
-        SessionCall::ConnectSwd => EngineCall::Connect(ConnectCall::ConnectSwd),
-        SessionCall::ReadWord(addr) => EngineCall::Memory(MemoryCall::ReadWord(addr)),
-        SessionCall::WriteWord(addr, word) => EngineCall::Memory(MemoryCall::WriteWord(addr, word)),
-        SessionCall::ReadMem(addr) => EngineCall::Memory(MemoryCall::ReadMem(addr)),
-        SessionCall::WriteMem(addr) => EngineCall::Memory(MemoryCall::WriteMem(addr)),
-        SessionCall::Core(q) => EngineCall::Core(q),
-        SessionCall::Fpb(q) => EngineCall::Fpb(q),
     }
 }
 
@@ -160,30 +138,4 @@ pub fn check_call(now_open: bool, c: SessionCall, bytes: usize) -> Check
         return Check::Refuse(Refusal::Range);
     }
     Check::Pass
-}
-
-// Call 23 alone leaves a frame.
-fn core_kind(c: CoreCall) -> Kind
-    ensures { λ r. ⌜ r ≡ kindBy (coreFrame c) ⌝ }
-{
-    match engine_calls::frame_for(EngineCall::Core(c)) {
-        Frame::Nowhere => Kind::Plain,
-        Frame::Found => Kind::Plain,
-        Frame::Left => Kind::Frame,
-    }
-}
-
-// What the end of a call needs to know of it.
-pub fn kind_of(c: SessionCall) -> Kind
-    ensures { λ r. ⌜ r ≡ kindOf c ⌝ }
-{
-    match c {
-        SessionCall::ConnectSwd => Kind::Connect,
-        SessionCall::ReadWord(_) => Kind::Plain,
-        SessionCall::WriteWord(_, _) => Kind::Plain,
-        SessionCall::ReadMem(_) => Kind::Plain,
-        SessionCall::WriteMem(_) => Kind::Plain,
-        SessionCall::Core(q) => core_kind(q),
-        SessionCall::Fpb(_) => Kind::Plain,
-    }
 }

@@ -1,6 +1,6 @@
 use borrow.Author.Needs.{needs}
-use Rattle.session_rules.proofs.engine_call.Statement.{statement}
-use Rattle.session_rules.proofs.engine_call.Tie as tie
+use Rattle.session.proofs.engine_call.Statement.{statement}
+use Rattle.session.proofs.engine_call.Tie as tie
 
 pub engine-call-spec : {M : Type 1} → statement M
 engine-call-spec =
