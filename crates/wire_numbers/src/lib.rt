@@ -92,83 +92,41 @@ pub fn result_of(o: Outcome) -> CallEnding
     }
 }
 
+// The numbers of a call that is no transfer and moves no pins.
+fn handed_over(kind: u8, bits: u8, len: u8, word: u32) -> TransportCall
+    ensures { λ r. ⌜ r ≡ record { kind = kind; request = 0; output = 0; select = 0; bits = bits; len = len; word = word } ⌝ }
+{
+    TransportCall {
+        kind: kind,
+        request: 0,
+        output: 0,
+        select: 0,
+        bits: bits,
+        len: len,
+        word: word,
+    }
+}
+
+// A sequence of so many bits, in so many bytes.
+fn sequence(bits: u8, len: u8) -> TransportCall
+    ensures { λ r. ⌜ r ≡ record { kind = 0x51; request = 0; output = 0; select = 0; bits = bits; len = len; word = 0 } ⌝ }
+{
+    handed_over(0x51, bits, len, 0)
+}
+
 // The bits of a fixed sequence and how many bytes are handed over with it.
 fn sequence_numbers(p: Pattern) -> TransportCall
     ensures { λ x. ⌜ x ≡ numbersOf (Call.Sequence p) ⌝ }
 {
     match p {
-        Pattern::ResetHigh => TransportCall {
-            kind: 0x51,
-            request: 0,
-            output: 0,
-            select: 0,
-            bits: 51,
-            len: 8,
-            word: 0,
-        },
-        Pattern::ResetIdle => TransportCall {
-            kind: 0x51,
-            request: 0,
-            output: 0,
-            select: 0,
-            bits: 2,
-            len: 1,
-            word: 0,
-        },
-        Pattern::JtagToSwd => TransportCall {
-            kind: 0x51,
-            request: 0,
-            output: 0,
-            select: 0,
-            bits: 16,
-            len: 2,
-            word: 0,
-        },
-        Pattern::SwdToDormant => TransportCall {
-            kind: 0x51,
-            request: 0,
-            output: 0,
-            select: 0,
-            bits: 16,
-            len: 2,
-            word: 0,
-        },
-        Pattern::AlertHigh => TransportCall {
-            kind: 0x51,
-            request: 0,
-            output: 0,
-            select: 0,
-            bits: 8,
-            len: 1,
-            word: 0,
-        },
-        Pattern::SelectionAlert => TransportCall {
-            kind: 0x51,
-            request: 0,
-            output: 0,
-            select: 0,
-            bits: 128,
-            len: 16,
-            word: 0,
-        },
-        Pattern::AlertIdle => TransportCall {
-            kind: 0x51,
-            request: 0,
-            output: 0,
-            select: 0,
-            bits: 4,
-            len: 1,
-            word: 0,
-        },
-        Pattern::SwdActivation => TransportCall {
-            kind: 0x51,
-            request: 0,
-            output: 0,
-            select: 0,
-            bits: 8,
-            len: 1,
-            word: 0,
-        },
+        Pattern::ResetHigh => sequence(51, 8),
+        Pattern::ResetIdle => sequence(2, 1),
+        Pattern::JtagToSwd => sequence(16, 2),
+        Pattern::SwdToDormant => sequence(16, 2),
+        Pattern::AlertHigh => sequence(8, 1),
+        Pattern::SelectionAlert => sequence(128, 16),
+        Pattern::AlertIdle => sequence(4, 1),
+        Pattern::SwdActivation => sequence(8, 1),
     }
 }
 
@@ -195,15 +153,7 @@ pub fn numbers_of(c: Call) -> TransportCall
             len: 0,
             word: word,
         },
-        Call::Connect => TransportCall {
-            kind: 0x43,
-            request: 0,
-            output: 0,
-            select: 0,
-            bits: 0,
-            len: 0,
-            word: 0,
-        },
+        Call::Connect => handed_over(0x43, 0, 0, 0),
         Call::Sequence(p) => sequence_numbers(p),
         Call::Pins {
             output,
@@ -218,27 +168,8 @@ pub fn numbers_of(c: Call) -> TransportCall
             len: 0,
             word: wait_us,
         },
-        Call::WriteBits { bits, word } => {
-            let n = bytes_for(bits);
-            TransportCall {
-                kind: 0x42,
-                request: 0,
-                output: 0,
-                select: 0,
-                bits: bits,
-                len: n,
-                word: word,
-            }
-        }
-        Call::OutputEnable => TransportCall {
-            kind: 0x4F,
-            request: 0,
-            output: 0,
-            select: 0,
-            bits: 0,
-            len: 0,
-            word: 0,
-        },
+        Call::WriteBits { bits, word } => handed_over(0x42, bits, bytes_for(bits), word),
+        Call::OutputEnable => handed_over(0x4F, 0, 0, 0),
     }
 }
 

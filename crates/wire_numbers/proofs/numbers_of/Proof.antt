@@ -7,7 +7,9 @@ use Rattle.wire_numbers.proofs.numbers_of.Tie as tie
 pub numbers-of-spec : {M : Type 1} → statement M
 numbers-of-spec =
     tie.close (tie.spec
-    (λ c. search needs) (λ c. search needs) (λ c. search needs) (λ c κs. search needs) (λ c. search needs) (λ c. search needs) (λ c κs. search needs)
-    (λ c. search needs) (λ c. simp (c .before .c .given .1)) (λ c. simp (c .enum-told .given .1))
+    (λ c. search needs) (λ c. search needs) (λ c κs. search needs) (λ c. search needs) (λ c κs. search needs) (λ c. search needs)
+    (λ c. search needs) (λ c κs. search needs) (λ c κs. search needs) (λ c. search needs) (λ c κs. search needs)
+    (λ c. simp (c .before .c .given .1)) (λ c. simp (c .before .enum-told .given .1) (c .handed-over .ensures))
     (λ c. simp (c .before .before .c2 .given .1) (simp (c .sequence-numbers .ensures))) (λ c. simp (c .before .c3 .given .1))
-    (λ c. simp (c .before .before .c4 .given .1) (simp (c .bytes-for .ensures, length-take))) (λ c. simp (c .enum-told2 .given .1)))
+    (λ c. simp (c .before .before .before .c4 .given .1) (simp (c .handed-over2 .ensures) (simp (c .before .bytes-for .ensures, length-take))))
+    (λ c. simp (c .before .enum-told2 .given .1) (c .handed-over3 .ensures)))
