@@ -11,11 +11,11 @@ extern "C" {
         call: u32, addr: u32, budget: u32, answers: *const u64, n: usize, buf: *mut u8, bytes: usize, log: *mut u64, places: usize,
     ) -> u32;
     fn bench_start(
-        t: &mut [u32; 7], m: &mut [u32; 12], c: &mut [u32; 9], call: u32, addr: u32, row: &mut [u32; 64], words: *mut u32, n: usize,
+        t: &mut [u32; 7], m: &mut [u32; 12], c: &mut [u32; 9], call: u32, addr: u32, room: &mut [u32; 192], words: *mut u32, n: usize,
         buf: *mut u8, bytes: usize,
     ) -> bool;
     fn bench_step(
-        t: &mut [u32; 7], m: &mut [u32; 12], c: &mut [u32; 9], answer: u64, row: &mut [u32; 64], words: *mut u32, n: usize,
+        t: &mut [u32; 7], m: &mut [u32; 12], c: &mut [u32; 9], answer: u64, room: &mut [u32; 192], words: *mut u32, n: usize,
         buf: *mut u8, bytes: usize,
     ) -> bool;
 }
@@ -114,22 +114,22 @@ fn on_run(call: usize, answers: &[u64], buf: &mut [u8], log: &mut [u64], _: &mut
 }
 
 /// What a caller of the port's steps keeps: the words of the call in flight (the transport call's, the operation's, the call's own),
-/// and a row for runs of words.
+/// and a room for runs of words.
 struct Words {
     t: [u32; 7],
     m: [u32; 12],
     c: [u32; 9],
-    row: [u32; 64],
+    room: [u32; 192],
 }
 
 /// The port's steps: the words of the transport call say which one is due (word 2), its byte (3) and its word (4).
 fn on_step(call: usize, answers: &[u64], buf: &mut [u8], log: &mut [u64], words: &mut Words) -> usize {
     let mut transport = Instantly { answers, log, made: 0 };
-    let Words { t, m, c, row } = words;
+    let Words { t, m, c, room } = words;
     let (b, bytes, mut own) = (buf.as_mut_ptr(), buf.len(), [0; 1]);
     let (w, n) = (own.as_mut_ptr(), own.len());
     // Safety: each pointer goes with its own length.
-    let mut due = unsafe { bench_start(t, m, c, call as u32, ADDRESS, row, w, n, b, bytes) };
+    let mut due = unsafe { bench_start(t, m, c, call as u32, ADDRESS, room, w, n, b, bytes) };
     while due {
         let call = match t[2] {
             0 => u64::from(t[3]) << 32 | u64::from(t[4]),
@@ -143,7 +143,7 @@ fn on_step(call: usize, answers: &[u64], buf: &mut [u8], log: &mut [u64], words:
             Err(_) => 3 << 32,
         };
         // Safety: as above.
-        due = unsafe { bench_step(t, m, c, answer, row, w, n, b, bytes) };
+        due = unsafe { bench_step(t, m, c, answer, room, w, n, b, bytes) };
     }
     transport.made
 }
@@ -177,7 +177,7 @@ fn main() {
     let mut bytes = vec![0u8; LENGTH];
     let mut log = vec![0u64; BUDGET];
     let buf = if call < 2 { &mut bytes[..] } else { &mut [] };
-    let mut words = Words { t: [0; 7], m: [0; 12], c: [0; 9], row: [0; 64] };
+    let mut words = Words { t: [0; 7], m: [0; 12], c: [0; 9], room: [0; 192] };
     let made = on_rust(call, &answers, buf, &mut log, &mut words);
     for port in [on_run, on_step] {
         let mut other = (vec![0u8; buf.len()], vec![0u64; BUDGET]);

@@ -10,7 +10,7 @@ use Rattle.call_core.specs.declared.CoreCall.the-variants.{CallFunction}
 use Rattle.call_core.specs.declared.Function.{Function}
 use Rattle.call_fpb.specs.declared.FpbCall.the-variants.{HwBreakpointSet}
 use Rattle.call_memory.specs.declared.MemoryCall.the-variants.{ReadMem, WriteMem, ReadWord}
-use Rattle.engine_calls.specs.Calls.{callTree, rowFor}
+use Rattle.engine_calls.specs.Calls.{callTree, zeroRoom}
 use Rattle.engine_calls.specs.declared.EngineCall.{EngineCall}
 use Rattle.engine_calls.specs.declared.EngineCall.the-variants.{Connect, Memory, Core, Fpb}
 use Rattle.engine_run.specs.Run.{within, logged}
@@ -27,7 +27,7 @@ abbrev pub callNo : ℕ → ℕ → EngineCall
 callNo n addr = getD (calls addr) n (Core (CallFunction (atItself addr) 9))
 
 abbrev pub playedNew : EngineCall → ℕ → List ℕ → List ℕ → Played
-playedNew c budget answers buf = play (callTree c fresh (rowFor c (replicate 8 0)) (replicate 1 0) buf) (within budget answers)
+playedNew c budget answers buf = play (callTree c fresh zeroRoom (replicate 1 0) buf) (within budget answers)
 
 -- r transport calls were made, and buffer and log are as the call leaves them; buf₀ and log₀ were there before
 abbrev pub Counted : EngineCall → ℕ → List ℕ → List ℕ → List ℕ → ℕ → List ℕ → List ℕ → Type 0

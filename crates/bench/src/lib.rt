@@ -73,29 +73,29 @@ pub extern "C" fn bench_start(
     c: &mut [u32; 9],
     call: u32,
     addr: u32,
-    row: &mut [u32; 64],
+    room: &mut [u32; 192],
     words: &mut [u32],
     buf: &mut [u8],
 ) -> bool
-    ensures { λ r. ⌜ BegunIn (callNo call addr) r (now (t .entry)) (now (m .entry)) (now (c .entry)) (now (row .entry)) (now (words .entry))
-        (now (buf .entry)) (now (t .exit)) (now (m .exit)) (now (c .exit)) (now (row .exit)) (now (words .exit)) (now (buf .exit)) ⌝ }
+    ensures { λ r. ⌜ BegunIn (callNo call addr) r (now (t .entry)) (now (m .entry)) (now (c .entry)) (now (room .entry)) (now (words .entry))
+        (now (buf .entry)) (now (t .exit)) (now (m .exit)) (now (c .exit)) (now (room .exit)) (now (words .exit)) (now (buf .exit)) ⌝ }
 {
     wire_memap::remember(m, call::new());
-    engine_words::start_in(t, m, c, call_no(call, addr), row, words, buf);
+    engine_words::start_in(t, m, c, call_no(call, addr), room, words, buf);
     engine_words::is_running(c)
 }
 
 // A value is taken at once where an access follows it.
-fn tried(t: &mut [u32; 7], m: &mut [u32; 12], c: &[u32; 9], x: u64, row: &mut [u32; 64]) -> bool
-    ensures { λ r. ⌜ TriesIn (answerOf x) r (now (t .entry)) (now (m .entry)) (now (c .entry)) (now (row .entry))
-        (now (t .exit)) (now (m .exit)) (now (row .exit)) ⌝ }
+fn tried(t: &mut [u32; 7], m: &mut [u32; 12], c: &[u32; 9], x: u64, room: &mut [u32; 192]) -> bool
+    ensures { λ r. ⌜ TriesIn (answerOf x) r (now (t .entry)) (now (m .entry)) (now (c .entry)) (now (room .entry))
+        (now (t .exit)) (now (m .exit)) (now (room .exit)) ⌝ }
 {
     if x < 0x100000000 {
         let v = x as u32;
-        if engine_words::runs_in(t, m, c, v, row) {
+        if engine_words::runs_in(t, m, c, v, room) {
             return true;
         }
-        return engine_words::moves_in(t, m, c, v, row);
+        return engine_words::moves_in(t, m, c, v, room);
     }
     false
 }
@@ -107,16 +107,16 @@ pub extern "C" fn bench_step(
     m: &mut [u32; 12],
     c: &mut [u32; 9],
     x: u64,
-    row: &mut [u32; 64],
+    room: &mut [u32; 192],
     words: &mut [u32],
     buf: &mut [u8],
 ) -> bool
-    ensures { λ r. ⌜ SteppedBy x r (now (t .entry)) (now (m .entry)) (now (c .entry)) (now (row .entry)) (now (words .entry))
-        (now (buf .entry)) (now (t .exit)) (now (m .exit)) (now (c .exit)) (now (row .exit)) (now (words .exit)) (now (buf .exit)) ⌝ }
+    ensures { λ r. ⌜ SteppedBy x r (now (t .entry)) (now (m .entry)) (now (c .entry)) (now (room .entry)) (now (words .entry))
+        (now (buf .entry)) (now (t .exit)) (now (m .exit)) (now (c .exit)) (now (room .exit)) (now (words .exit)) (now (buf .exit)) ⌝ }
 {
-    if tried(t, m, c, x, row) {
+    if tried(t, m, c, x, room) {
         return true;
     }
-    engine_words::step_in(t, m, c, wire_numbers::answer_of(x), row, words, buf);
+    engine_words::step_in(t, m, c, wire_numbers::answer_of(x), room, words, buf);
     engine_words::is_running(c)
 }

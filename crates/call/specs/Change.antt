@@ -1,5 +1,5 @@
 -- Copyright 2026 Kenta Ida. SPDX-License-Identifier: Apache-2.0. Ported from arm-debug/src/lib.rs of ciniml/rust-dap.
--- What a call changes besides its transport calls: what is remembered, the row of words, the caller's buffer.
+-- What a call changes besides its transport calls: what is remembered, the words that it runs over, the caller's buffer.
 use Prim.Native.Nat.{ℕ}
 use mathlib.Core.Bool.{Bool, true, false}
 use mathlib.Core.List.{List, [], _∷_}
@@ -51,3 +51,4 @@ changed (C.Patch at skip count word) m = wordsBecome m (set (m .words) 0 (patchW
 changed (C.Put at word) m = wordsBecome m (set (m .words) at word)
 changed (C.Registers r0 r1 r2 r3 sp lr pc) m =
     wordsBecome m (sets (m .words) 8 (r0 ∷ r1 ∷ r2 ∷ r3 ∷ sp ∷ lr ∷ pc ∷ XPSR-THUMB ∷ []))
+changed (C.Frame r0 r1 r2 r3 sp lr pc xpsr) m = wordsBecome m (sets (m .words) 0 (r0 ∷ r1 ∷ r2 ∷ r3 ∷ sp ∷ lr ∷ pc ∷ xpsr ∷ []))

@@ -2,21 +2,22 @@
 // SPDX-License-Identifier: Apache-2.0
 // Ported from arm-debug/src/lib.rs of ciniml/rust-dap.
 
-// What a call changes besides its transport calls: what is remembered, the row of words, the caller's buffer.
+// What a call changes besides its transport calls: what is remembered, the words that it runs over, the caller's buffer.
 ghost use mathlib.Core.List.{[], _∷_};
 ghost use mathlib.Core.Path.{_≡_};
+ghost use Prim.Native.Nat.{_≤_};
 ghost use lib.ListN.{set};
 ghost use lib.Seq.{sets};
 ghost use Rattle.wire.specs.Wire.{memoryOf};
-ghost use Rattle.call.specs.Change.{fresh, changed, XPSR-THUMB};
+ghost use Rattle.call.specs.Change.{fresh, changed};
 ghost use Rattle.call.specs.Laws.Change.{rememberedAfter, wordsAfter, bufAfter, isNothing};
 use call_at::At;
 use wire::Outcome;
 use wire::Remembered;
 use wire_memap::Op;
 
-// `at` is a place in the caller's buffer, of `Put` one in the row; `skip` and `count` are bytes of a word.
-// `Registers`: what a function starts with, in the row's places 8 to 15.
+// `at` is a place in the caller's buffer, of `Put` one in the room; `skip` and `count` are bytes of a word.
+// `Registers`: what a function starts with, in the room's places 8 to 15. `Frame`: a call frame, in places 0 to 7.
 pub enum Change {
     Nothing,
     New,
@@ -55,6 +56,16 @@ pub enum Change {
         sp: u32,
         lr: u32,
         pc: u32,
+    },
+    Frame {
+        r0: u32,
+        r1: u32,
+        r2: u32,
+        r3: u32,
+        sp: u32,
+        lr: u32,
+        pc: u32,
+        xpsr: u32,
     },
 }
 
@@ -101,6 +112,7 @@ pub fn is_nothing(c: Change) -> bool
         Change::Patch { .. } => false,
         Change::Put { .. } => false,
         Change::Registers { .. } => false,
+        Change::Frame { .. } => false,
     }
 }
 
@@ -155,6 +167,16 @@ fn remembered_after(c: Change, r: Remembered) -> Remembered
             lr: _,
             pc: _,
         } => r,
+        Change::Frame {
+            r0: _,
+            r1: _,
+            r2: _,
+            r3: _,
+            sp: _,
+            lr: _,
+            pc: _,
+            xpsr: _,
+        } => r,
     }
 }
 
@@ -167,18 +189,30 @@ fn put(row: &mut [u32], i: usize, word: u32)
     }
 }
 
-// What a function starts with, in the row's places 8 to 15.
-fn put_registers(row: &mut [u32], r0: u32, r1: u32, r2: u32, r3: u32, sp: u32, lr: u32, pc: u32)
-    ensures { λ _. ⌜ now (row .exit) ≡ sets (now (row .entry)) 8 (r0 ∷ r1 ∷ r2 ∷ r3 ∷ sp ∷ lr ∷ pc ∷ XPSR-THUMB ∷ []) ⌝ }
+// Eight registers, in the places from `at` on.
+fn put_registers(
+    row: &mut [u32],
+    at: usize,
+    r0: u32,
+    r1: u32,
+    r2: u32,
+    r3: u32,
+    sp: u32,
+    lr: u32,
+    pc: u32,
+    xpsr: u32,
+)
+    requires { ⌜ at ≤ 8 ⌝ }
+    ensures { λ _. ⌜ now (row .exit) ≡ sets (now (row .entry)) at (r0 ∷ r1 ∷ r2 ∷ r3 ∷ sp ∷ lr ∷ pc ∷ xpsr ∷ []) ⌝ }
 {
-    put(row, 8, r0);
-    put(row, 9, r1);
-    put(row, 10, r2);
-    put(row, 11, r3);
-    put(row, 12, sp);
-    put(row, 13, lr);
-    put(row, 14, pc);
-    put(row, 15, XPSR_THUMB);
+    put(row, at, r0);
+    put(row, at + 1, r1);
+    put(row, at + 2, r2);
+    put(row, at + 3, r3);
+    put(row, at + 4, sp);
+    put(row, at + 5, lr);
+    put(row, at + 6, pc);
+    put(row, at + 7, xpsr);
 }
 
 // The row and the buffer after a change.
@@ -215,7 +249,17 @@ fn apply(c: Change, row: &mut [u32], buf: &mut [u8])
             sp,
             lr,
             pc,
-        } => put_registers(row, r0, r1, r2, r3, sp, lr, pc),
+        } => put_registers(row, 8, r0, r1, r2, r3, sp, lr, pc, XPSR_THUMB),
+        Change::Frame {
+            r0,
+            r1,
+            r2,
+            r3,
+            sp,
+            lr,
+            pc,
+            xpsr,
+        } => put_registers(row, 0, r0, r1, r2, r3, sp, lr, pc, xpsr),
     }
 }
 

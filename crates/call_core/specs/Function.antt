@@ -1,6 +1,6 @@
 -- Copyright 2026 Kenta Ida. SPDX-License-Identifier: Apache-2.0. Ported from arm-debug/src/lib.rs of ciniml/rust-dap.
 -- The bootrom's table of functions, and a function called on the halted core (000: rom_func_lookup to finish_function).
--- Registers pass through the row: a frame stands in its places 0 to 7, and what a function starts with in 8 to 15.
+-- Registers pass through the room: a frame stands in its places 0 to 7, and what a function starts with in 8 to 15.
 use Prim.Native.Nat.{ℕ, zero, suc, _+_, _-_, _*_, _/_, _%_, _^_}
 use mathlib.Core.Bool.{cond}
 use mathlib.Core.List.{List, [], _∷_}
@@ -14,6 +14,7 @@ use Rattle.call.specs.declared.Change.the-variants as C
 use Rattle.call_core.specs.Cortex.{DHCSR, DCRDR, DBGKEY, C-DEBUGEN, C-HALT, C-MASKINTS, S-HALT, stands, R0, SP, LR, PC, XPSR}
 use Rattle.call_core.specs.Core.{debugEnable, waitStatus, halt, resume, step, isHalted, readCoreReg, storeCoreReg, writeCoreReg}
 use Rattle.call_core.specs.declared.Function.{Function}
+use Rattle.call_core.specs.declared.CallFrame.{CallFrame}
 use Rattle.call_core.specs.declared.CoreCall.{CoreCall}
 use Rattle.call_core.specs.declared.CoreCall.the-variants as N
 
@@ -58,7 +59,7 @@ romFuncLookup first second = do
 abbrev pub clobbered : List ℕ
 clobbered = R0 ∷ 1 ∷ 2 ∷ 3 ∷ SP ∷ LR ∷ PC ∷ XPSR ∷ []
 
--- the last n registers of a frame, each to its place of the row
+-- the last n registers of a frame, each to its place of the room
 unfoldable pub saveRegs : ℕ → Job
 saveRegs zero = return 0
 saveRegs (suc n) = do
@@ -66,13 +67,13 @@ saveRegs (suc n) = do
   keeping (C.Put (8 - suc n) value)
   saveRegs n
 
--- write_core_reg with the row's word at `place`: a run of one word is what write_word makes
+-- write_core_reg with the room's word at `place`: a run of one word is what write_word makes
 abbrev pub writeRowReg : ℕ → ℕ → Job
 writeRowReg reg place = do
   just (O.WriteWords DCRDR 1 place)
   storeCoreReg reg
 
--- the last n registers of the frame that stands in the row from place `base` on
+-- the last n registers of the frame that stands in the room from place `base` on
 unfoldable pub writeRegs : ℕ → ℕ → Job
 writeRegs base zero = return 0
 writeRegs base (suc n) = do
@@ -120,13 +121,20 @@ afterWait waited = do
   writeRegs 0 8
   return result
 
-abbrev pub finishFunction : ℕ → Job
-finishFunction polls = attempt (waitStatus S-HALT polls) afterWait
+-- finish_function with the frame in its places
+abbrev pub finishing : ℕ → Job
+finishing polls = attempt (waitStatus S-HALT polls) afterWait
 
+abbrev pub finishFunction : CallFrame → ℕ → Job
+finishFunction frame polls = do
+  keeping (C.Frame (frame .r0) (frame .r1) (frame .r2) (frame .r3) (frame .sp) (frame .lr) (frame .pc) (frame .xpsr))
+  finishing polls
+
+-- start_function leaves the frame in its places
 abbrev pub callFunction : Function → ℕ → Job
 callFunction f polls = do
   startFunction f
-  finishFunction polls
+  finishing polls
 
 -- calls 15 to 25
 unfoldable pub coreJob : CoreCall → Job
@@ -139,5 +147,5 @@ coreJob (N.ReadCoreReg reg) = readCoreReg reg
 coreJob (N.WriteCoreReg reg value) = writeCoreReg reg value
 coreJob (N.RomFuncLookup first second) = romFuncLookup first second
 coreJob (N.StartFunction f) = startFunction f
-coreJob (N.FinishFunction polls) = finishFunction polls
+coreJob (N.FinishFunction frame polls) = finishFunction frame polls
 coreJob (N.CallFunction f polls) = callFunction f polls

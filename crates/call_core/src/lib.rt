@@ -12,7 +12,7 @@ ghost use Rattle.wire_memap.specs.declared.Op.the-variants.{ReadWord, WriteWord
 ghost use Rattle.call.specs.Job.{ends, attempt, orFail};
 ghost use Rattle.call.specs.Laws.Asks.{asks, keepSome, nextJob, opThen};
 ghost use Rattle.call_core.specs.Cortex as Cortex;
-ghost use Rattle.call_core.specs.Function.{coreJob, ROM-TABLE-PTRS, joined, lookFrom, clobbered, writeRowReg, finishFunction, afterWait};
+ghost use Rattle.call_core.specs.Function.{coreJob, ROM-TABLE-PTRS, joined, lookFrom, clobbered, writeRowReg, finishing, finishFunction, afterWait};
 ghost use Rattle.call_core.specs.Laws.After.{bitOf, waiting, polled, accessOn, accessAfter, entryOf, tabled, matching, findOn, ending, looking, looked, setting, saving, beginning, restoring, resulting};
 ghost use Rattle.call_core.specs.Laws.After.{runOn, overOn, thenOn, goesOn, stopsAt, phaseAfter, coreAfter};
 ghost use Rattle.call_places.specs.declared.CoreAt.the-variants.{Access};
@@ -44,8 +44,19 @@ pub struct Function {
     pub trampoline: u32,
 }
 
-// A frame stands in the row's places 0 to 7: calls 23 and 25 fill them, 24 finds it there. The last number of 24 and 25 is
-// their polls.
+// The registers that a function may change, as call 23 leaves them and 24 restores them.
+pub struct CallFrame {
+    pub r0: u32,
+    pub r1: u32,
+    pub r2: u32,
+    pub r3: u32,
+    pub sp: u32,
+    pub lr: u32,
+    pub pc: u32,
+    pub xpsr: u32,
+}
+
+// Call 23 leaves its frame in the room's places 0 to 7. The last number of 24 and 25 is their polls.
 pub enum CoreCall {
     DebugEnable,
     Halt,
@@ -56,7 +67,7 @@ pub enum CoreCall {
     WriteCoreReg(u8, u32),
     RomFuncLookup(u8, u8),
     StartFunction(Function),
-    FinishFunction(u32),
+    FinishFunction(CallFrame, u32),
     CallFunction(Function, u32),
 }
 
@@ -386,7 +397,7 @@ fn save_on(change: Change, left: u32, plan: Plan) -> Asks
     )
 }
 
-// A register of the frame is written with the row's word at `place`.
+// A register of the frame is written with the room's word at `place`.
 fn register_set(i: u32, then: Then, place: u32) -> Asks
     ensures { λ r. ⌜ attempt (writeRowReg (getD clobbered i 0) place) (orFail (thenOn then))
         ≡ asks (r .change) (r .next) (coreAfter (r .at)) ⌝ }
@@ -490,30 +501,33 @@ fn follow(t: Then, a: AccessAsks) -> Asks
     }
 }
 
-// The wait for a function's end is over: the core is halted, whatever came of it.
-fn halt_again(waited: Outcome) -> Asks
-    ensures { λ r. ⌜ afterWait waited ≡ asks (r .change) (r .next) (coreAfter (r .at)) ⌝ }
+// The wait for a function's end is over: the core is halted, whatever came of it. `change` comes first.
+fn halt_again(change: Change, waited: Outcome) -> Asks
+    ensures { λ r. ⌜ keepSome change (afterWait waited) ≡ asks (r .change) (r .next) (coreAfter (r .at)) ⌝ }
 {
-    doing(
+    writing(
+        change,
         CoreAt::Over {
             unmasked: false,
             waited: waited,
         },
-        Op::WriteWord {
-            addr: DHCSR,
-            word: MASKED + C_HALT,
-        },
+        DHCSR,
+        MASKED + C_HALT,
     )
 }
 
-// The second half of a function's call: `left` more reads of DHCSR.
-fn finish(left: u32) -> Asks
-    ensures { λ r. ⌜ finishFunction left ≡ asks (r .change) (r .next) (coreAfter (r .at)) ⌝ }
+// The second half of a function's call: `left` more reads of DHCSR. `change` comes first.
+fn finish(change: Change, left: u32) -> Asks
+    ensures { λ r. ⌜ keepSome change (finishing left) ≡ asks (r .change) (r .next) (coreAfter (r .at)) ⌝ }
 {
     if left == 0 {
-        return halt_again(Outcome::Failed(ArmError::CoreTimeout));
+        return halt_again(change, Outcome::Failed(ArmError::CoreTimeout));
     }
-    doing(CoreAt::Wait(left - 1), Op::ReadWord { addr: DHCSR })
+    Asks {
+        change: change,
+        at: call_places::pack_core(CoreAt::Wait(left - 1)),
+        next: Next::Do(Op::ReadWord { addr: DHCSR }),
+    }
 }
 
 // DHCSR is read in the wait for a function's end.
@@ -521,9 +535,9 @@ fn waited_by(left: u32, v: u32) -> Asks
     ensures { λ r. ⌜ attempt (polled Halt left v) afterWait ≡ asks (r .change) (r .next) (coreAfter (r .at)) ⌝ }
 {
     if v / S_HALT % 2 == 1 {
-        return halt_again(Outcome::Value(0));
+        return halt_again(Change::Nothing, Outcome::Value(0));
     }
-    finish(left)
+    finish(Change::Nothing, left)
 }
 
 // Interrupts are unmasked: r0 is read, or the wait's error ends the call.
@@ -568,7 +582,7 @@ fn end_of(plan: Plan) -> Asks
     ensures { λ r. ⌜ ending plan ≡ asks (r .change) (r .next) (coreAfter (r .at)) ⌝ }
 {
     if plan.finish {
-        return finish(plan.polls);
+        return finish(Change::Nothing, plan.polls);
     }
     ended(Outcome::Value(0))
 }
@@ -637,6 +651,23 @@ fn begin(f: Function, finish: bool, polls: u32) -> Asks
     )
 }
 
+// The second half of a function's call, from the frame that it is given.
+fn finish_from(frame: CallFrame, polls: u32) -> Asks
+    ensures { λ r. ⌜ finishFunction frame polls ≡ asks (r .change) (r .next) (coreAfter (r .at)) ⌝ }
+{
+    let given = Change::Frame {
+        r0: frame.r0,
+        r1: frame.r1,
+        r2: frame.r2,
+        r3: frame.r3,
+        sp: frame.sp,
+        lr: frame.lr,
+        pc: frame.pc,
+        xpsr: frame.xpsr,
+    };
+    finish(given, polls)
+}
+
 // A call that is one access.
 fn alone(at: AccessAt, op: Op) -> Asks
     ensures { λ r. ⌜ opThen op (accessAfter at) ≡ asks (r .change) (r .next) (coreAfter (r .at)) ⌝ }
@@ -700,7 +731,7 @@ pub fn start(c: CoreCall) -> Asks
         ),
         CoreCall::RomFuncLookup(first, second) => look_up((first as u32) + 0x100 * (second as u32)),
         CoreCall::StartFunction(f) => begin(f, false, 0),
-        CoreCall::FinishFunction(polls) => finish(polls),
+        CoreCall::FinishFunction(frame, polls) => finish_from(frame, polls),
         CoreCall::CallFunction(f, polls) => begin(f, true, polls),
     }
 }
@@ -734,7 +765,7 @@ fn failed_after(p: CoreAt, e: ArmError) -> Asks
             left: _,
             plan: _,
         } => ended(Outcome::Failed(e)),
-        CoreAt::Wait(_) => halt_again(Outcome::Failed(e)),
+        CoreAt::Wait(_) => halt_again(Change::Nothing, Outcome::Failed(e)),
         CoreAt::Over {
             unmasked: _,
             waited: _,

@@ -50,14 +50,14 @@ pub record Steps (w : Wire) (a : StepAnswer) (ws b : List ℕ) : Type 0 where
   pub tree : w ≡ stateTree (a .state) ws b
   pub counted : CountedIn (statusOf (a .state .call)) (a .state .transfer)
 
--- The same over a row and the caller's words, of which `own` says which one the call runs over; the other is unchanged.
-pub record Lent (own : Bool) (w : Wire) (a : StepAnswer) (row₀ words₀ row words buf : List ℕ) : Type 0 where
-  pub steps : Steps w a (cond own words row) buf
-  pub other : cond own row words ≡ cond own row₀ words₀
+-- The same over a room and the caller's words, of which `own` says which one the call runs over; the other is unchanged.
+pub record Lent (own : Bool) (w : Wire) (a : StepAnswer) (room₀ words₀ room words buf : List ℕ) : Type 0 where
+  pub steps : Steps w a (cond own words room) buf
+  pub other : cond own room words ≡ cond own room₀ words₀
   pub whose : ownOf (a .state .call) ≡ own
 
 -- A step from the state s. The tree of a call that has ended goes on as itself (`follow`): the same ending, no transport call, words
 -- and buffer as they were; and the state stays.
-pub record Stepped (s : State) (a : Answer) (x : StepAnswer) (row₀ words₀ buf₀ row words buf : List ℕ) : Type 0 where
-  pub lent : Lent (ownOf (s .call)) (follow (stateTree s (cond (ownOf (s .call)) words₀ row₀) buf₀) a) x row₀ words₀ row words buf
+pub record Stepped (s : State) (a : Answer) (x : StepAnswer) (room₀ words₀ buf₀ room words buf : List ℕ) : Type 0 where
+  pub lent : Lent (ownOf (s .call)) (follow (stateTree s (cond (ownOf (s .call)) words₀ room₀) buf₀) a) x room₀ words₀ room words buf
   pub stays : (o : Outcome) → statusOf (s .call) ≡ Ended o → x .state ≡ s

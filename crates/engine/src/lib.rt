@@ -75,18 +75,18 @@ fn answer(t: [u32; 7], m: [u32; 12], c: [u32; 9]) -> StepAnswer
 pub fn start(
     r: Remembered,
     x: EngineCall,
-    row: &mut [u32; 64],
+    room: &mut [u32; 192],
     words: &mut [u32],
     buf: &mut [u8],
 ) -> StepAnswer
-    ensures { λ a. ⌜ Lent (lent x) (callTree x r (now (row .entry)) (now (words .entry)) (now (buf .entry))) a
-        (now (row .entry)) (now (words .entry)) (now (row .exit)) (now (words .exit)) (now (buf .exit)) ⌝ }
+    ensures { λ a. ⌜ Lent (lent x) (callTree x r (now (room .entry)) (now (words .entry)) (now (buf .entry))) a
+        (now (room .entry)) (now (words .entry)) (now (room .exit)) (now (words .exit)) (now (buf .exit)) ⌝ }
 {
     let mut t = [0u32; 7];
     let mut m = [0u32; 12];
     let mut c = [0u32; 9];
     wire_memap::remember(&mut m, r);
-    engine_words::start_in(&mut t, &mut m, &mut c, x, row, words, buf);
+    engine_words::start_in(&mut t, &mut m, &mut c, x, room, words, buf);
     answer(t, m, c)
 }
 
@@ -95,17 +95,17 @@ pub fn start(
 pub fn step(
     s: State,
     a: Answer,
-    row: &mut [u32; 64],
+    room: &mut [u32; 192],
     words: &mut [u32],
     buf: &mut [u8],
 ) -> StepAnswer
-    ensures { λ x. ⌜ Stepped s a x (now (row .entry)) (now (words .entry)) (now (buf .entry))
-        (now (row .exit)) (now (words .exit)) (now (buf .exit)) ⌝ }
+    ensures { λ x. ⌜ Stepped s a x (now (room .entry)) (now (words .entry)) (now (buf .entry))
+        (now (room .exit)) (now (words .exit)) (now (buf .exit)) ⌝ }
 {
     let mut t = s.transfer;
     let mut m = s.op;
     let mut c = s.call;
-    engine_words::step_in(&mut t, &mut m, &mut c, a, row, words, buf);
+    engine_words::step_in(&mut t, &mut m, &mut c, a, room, words, buf);
     answer(t, m, c)
 }
 
@@ -150,7 +150,7 @@ pub fn idle(r: Remembered) -> State
     }
 }
 
-// The same call, over the row.
+// The same call, over the room.
 pub fn over_row(s: State) -> State
     ensures { λ r. ⌜ ((ws b : List ℕ) → stateTree r ws b ≡ stateTree s ws b) × (ownOf (r .call) ≡ false) ⌝ }
 {

@@ -1,11 +1,9 @@
 // One enum of all 35 calls. What a call asks for first and after each operation, over the groups; which words it runs over,
-// and where its frame is.
+// and the frame that it leaves.
 ghost use mathlib.Core.Bool.{cond};
 ghost use mathlib.Core.Path.{_≡_};
 ghost use Prim.Native.Nat.{_<_};
-ghost use lib.ListN.{replicate};
-ghost use lib.Seq.{sets};
-ghost use Rattle.engine_calls.specs.Calls.{jobOf, lentWords, lentFlash, lent, frameOf, coreFrame, frameFor, rowWith, leave};
+ghost use Rattle.engine_calls.specs.Calls.{jobOf, lentWords, lentFlash, lent, frameOf, coreLeaves, leavesFrame, leave};
 ghost use Rattle.engine_calls.specs.Laws.After.{callAfter, asksJob, inGroup};
 use call::Asks;
 use call::Change;
@@ -37,13 +35,6 @@ const CORE: u32 = 2;
 const FPB: u32 = 3;
 
 const NRF: u32 = 4;
-
-// What a call does with the eight words that the caller lends for a frame: call 24 finds its frame there, call 23 leaves it there.
-pub enum Frame {
-    Nowhere,
-    Found,
-    Left,
-}
 
 // What a group asks for, with the group in its numbers.
 fn grouped(group: u32, q: Asks) -> Asks
@@ -138,76 +129,50 @@ pub fn owns(c: EngineCall) -> bool
     }
 }
 
-fn core_frame(c: CoreCall) -> Frame
-    ensures { λ r. ⌜ r ≡ coreFrame c ⌝ }
+fn core_leaves(c: CoreCall) -> bool
+    ensures { λ r. ⌜ r ≡ coreLeaves c ⌝ }
 {
     match c {
-        CoreCall::DebugEnable => Frame::Nowhere,
-        CoreCall::Halt => Frame::Nowhere,
-        CoreCall::Resume => Frame::Nowhere,
-        CoreCall::Step => Frame::Nowhere,
-        CoreCall::IsHalted => Frame::Nowhere,
-        CoreCall::ReadCoreReg(_) => Frame::Nowhere,
-        CoreCall::WriteCoreReg(_, _) => Frame::Nowhere,
-        CoreCall::RomFuncLookup(_, _) => Frame::Nowhere,
-        CoreCall::StartFunction(_) => Frame::Left,
-        CoreCall::FinishFunction(_) => Frame::Found,
-        CoreCall::CallFunction(_, _) => Frame::Nowhere,
+        CoreCall::DebugEnable => false,
+        CoreCall::Halt => false,
+        CoreCall::Resume => false,
+        CoreCall::Step => false,
+        CoreCall::IsHalted => false,
+        CoreCall::ReadCoreReg(_) => false,
+        CoreCall::WriteCoreReg(_, _) => false,
+        CoreCall::RomFuncLookup(_, _) => false,
+        CoreCall::StartFunction(_) => true,
+        CoreCall::FinishFunction(_, _) => false,
+        CoreCall::CallFunction(_, _) => false,
     }
 }
 
-pub fn frame_for(c: EngineCall) -> Frame
-    ensures { λ r. ⌜ r ≡ frameFor c ⌝ }
+// Whether a call leaves a frame: call 23 does.
+pub fn leaves_frame(c: EngineCall) -> bool
+    ensures { λ r. ⌜ r ≡ leavesFrame c ⌝ }
 {
     match c {
-        EngineCall::Connect(_) => Frame::Nowhere,
-        EngineCall::Memory(_) => Frame::Nowhere,
-        EngineCall::Core(q) => core_frame(q),
-        EngineCall::Fpb(_) => Frame::Nowhere,
-        EngineCall::Nrf(_) => Frame::Nowhere,
+        EngineCall::Connect(_) => false,
+        EngineCall::Memory(_) => false,
+        EngineCall::Core(q) => core_leaves(q),
+        EngineCall::Fpb(_) => false,
+        EngineCall::Nrf(_) => false,
     }
 }
 
-// A row with a frame in its first eight places.
-fn row_from(frame: [u32; 8]) -> [u32; 64]
-    ensures { λ r. ⌜ r ≡ sets (replicate 64 0) 0 (frameOf frame) ⌝ }
-{
-    let mut row = [0u32; 64];
-    row[0] = frame[0];
-    row[1] = frame[1];
-    row[2] = frame[2];
-    row[3] = frame[3];
-    row[4] = frame[4];
-    row[5] = frame[5];
-    row[6] = frame[6];
-    row[7] = frame[7];
-    row
-}
-
-// The row that a call runs over: zeros, and the frame that it finds.
-pub fn row_for(f: Frame, frame: [u32; 8]) -> [u32; 64]
-    ensures { λ r. ⌜ r ≡ rowWith f frame ⌝ }
-{
-    match f {
-        Frame::Nowhere => [0u32; 64],
-        Frame::Found => row_from(frame),
-        Frame::Left => [0u32; 64],
-    }
-}
-
-// The frame in a row's first eight words.
-fn frame_of(row: [u32; 64]) -> [u32; 8]
-    ensures { λ r. ⌜ r ≡ frameOf row ⌝ }
+// The frame in the room's first eight words.
+fn frame_of(room: &[u32; 192]) -> [u32; 8]
+    ensures { λ r. ⌜ r ≡ frameOf (now (room .entry)) ⌝ }
 {
     [
-        row[0],
-        row[1],
-        row[2],
-        row[3],
-        row[4],
-        row[5],
-        row[6],
-        row[7],
+        room[0],
+        room[1],
+        room[2],
+        room[3],
+        room[4],
+        room[5],
+        room[6],
+        room[7],
     ]
 }
 
@@ -222,12 +187,11 @@ fn handed_over(ok: bool, left: [u32; 8], before: [u32; 8]) -> [u32; 8]
 }
 
 // The frame after a call.
-pub fn frame_left(f: Frame, ok: bool, row: [u32; 64], before: [u32; 8]) -> [u32; 8]
-    ensures { λ r. ⌜ r ≡ leave f ok row before ⌝ }
+pub fn frame_left(leaves: bool, ok: bool, room: &[u32; 192], before: [u32; 8]) -> [u32; 8]
+    ensures { λ r. ⌜ r ≡ leave leaves ok (now (room .entry)) before ⌝ }
 {
-    match f {
-        Frame::Nowhere => before,
-        Frame::Found => before,
-        Frame::Left => handed_over(ok, frame_of(row), before),
+    if leaves {
+        return handed_over(ok, frame_of(room), before);
     }
+    before
 }

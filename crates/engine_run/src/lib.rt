@@ -5,7 +5,7 @@ ghost use mathlib.Core.Path.{_≡_};
 ghost use Prim.Native.Nat.{ℕ, _<_, _≤_};
 ghost use lib.ListN.{length, take};
 ghost use Rattle.wire.specs.Wire.{Wire, play};
-ghost use Rattle.engine_calls.specs.Calls.{callTree, rowFor};
+ghost use Rattle.engine_calls.specs.Calls.{callTree, zeroRoom};
 ghost use Rattle.wire_numbers.specs.Results.{endingOf};
 ghost use Rattle.engine_words.specs.Laws.Step.{LentIn};
 ghost use Rattle.engine_run.specs.Run.{within, RanAs};
@@ -40,14 +40,14 @@ fn turn(
     c: &mut [u32; 9],
     i: u32,
     answers: &[u64],
-    row: &mut [u32; 64],
+    room: &mut [u32; 192],
     words: &mut [u32],
     buf: &mut [u8],
     log: &mut [u64],
 )
     requires { ⌜ i < length (now answers) ⌝ }
-    ensures { λ _. ⌜ Turns i (now (answers .entry)) (now (t .entry)) (now (m .entry)) (now (c .entry)) (now (row .entry)) (now (words .entry))
-        (now (buf .entry)) (now (log .entry)) (now (t .exit)) (now (m .exit)) (now (c .exit)) (now (row .exit)) (now (words .exit))
+    ensures { λ _. ⌜ Turns i (now (answers .entry)) (now (t .entry)) (now (m .entry)) (now (c .entry)) (now (room .entry)) (now (words .entry))
+        (now (buf .entry)) (now (log .entry)) (now (t .exit)) (now (m .exit)) (now (c .exit)) (now (room .exit)) (now (words .exit))
         (now (buf .exit)) (now (log .exit)) ⌝ }
 {
     wire_numbers::note_due(log, i, t);
@@ -55,16 +55,16 @@ fn turn(
     let x = answers[j];
     if x < 0x100000000 {
         let v = x as u32;
-        if engine_words::runs_in(t, m, c, v, row) {
+        if engine_words::runs_in(t, m, c, v, room) {
             return;
         }
-        if engine_words::moves_in(t, m, c, v, row) {
+        if engine_words::moves_in(t, m, c, v, room) {
             return;
         }
-        engine_words::step_in(t, m, c, Answer::Good(v), row, words, buf);
+        engine_words::step_in(t, m, c, Answer::Good(v), room, words, buf);
         return;
     }
-    engine_words::step_in(t, m, c, wire_numbers::answer_of(x), row, words, buf);
+    engine_words::step_in(t, m, c, wire_numbers::answer_of(x), room, words, buf);
 }
 
 // The turns of a call that is started, until it ends or no answer is left; how many there were.
@@ -74,23 +74,23 @@ fn run_on(
     c: &mut [u32; 9],
     limit: u32,
     answers: &[u64],
-    row: &mut [u32; 64],
+    room: &mut [u32; 192],
     words: &mut [u32],
     buf: &mut [u8],
     log: &mut [u64],
 ) -> u32
     requires { ⌜ limit ≤ length (now answers) ⌝ }
-    ensures { λ n. ⌜ ((own : Bool) (w : Wire) (row₀ words₀ : List ℕ)
-        → LentIn own w (now (t .entry)) (now (m .entry)) (now (c .entry)) row₀ words₀ (now (row .entry)) (now (words .entry)) (now (buf .entry))
-        → Stops own w limit (now (answers .entry)) row₀ words₀ (now (log .entry)) n (now (t .exit)) (now (m .exit)) (now (c .exit))
-        (now (row .exit)) (now (words .exit)) (now (buf .exit)) (now (log .exit))) ⌝ }
+    ensures { λ n. ⌜ ((own : Bool) (w : Wire) (room₀ words₀ : List ℕ)
+        → LentIn own w (now (t .entry)) (now (m .entry)) (now (c .entry)) room₀ words₀ (now (room .entry)) (now (words .entry)) (now (buf .entry))
+        → Stops own w limit (now (answers .entry)) room₀ words₀ (now (log .entry)) n (now (t .exit)) (now (m .exit)) (now (c .exit))
+        (now (room .exit)) (now (words .exit)) (now (buf .exit)) (now (log .exit))) ⌝ }
 {
     let mut i: u32 = 0;
     while i < limit {
         if !engine_words::is_running(c) {
             return i;
         }
-        turn(t, m, c, i, answers, row, words, buf, log);
+        turn(t, m, c, i, answers, room, words, buf, log);
         i += 1;
     }
     i
@@ -110,8 +110,7 @@ fn ending_of(c: &[u32; 9]) -> CallEnding
 }
 
 // A whole call over a budget. The answers are what is left of the budget: where there are fewer, the budget is as many as they are.
-// Call 24 finds its frame in `frame`; call 23 leaves its frame there if it succeeds. The log gets each transport call's number, as
-// far as it reaches.
+// Call 23 leaves its frame in `frame` if it succeeds. The log gets each transport call's number, as far as it reaches.
 pub fn run(
     r: Remembered,
     x: EngineCall,
@@ -123,32 +122,32 @@ pub fn run(
     log: &mut [u64],
 ) -> Ran
     ensures { λ y. ⌜ RanAs x
-        (play (callTree x r (rowFor x (now (frame .entry))) (now (words .entry)) (now (buf .entry))) (within budget (now (answers .entry))))
+        (play (callTree x r zeroRoom (now (words .entry)) (now (buf .entry))) (within budget (now (answers .entry))))
         y (now (frame .entry)) (now (words .entry)) (now (frame .exit)) (now (words .exit)) (now (buf .exit))
         (now (log .entry)) (now (log .exit)) ⌝ }
 {
-    let f = engine_calls::frame_for(x);
+    let leaves = engine_calls::leaves_frame(x);
     let before = *frame;
-    let mut row = engine_calls::row_for(f, before);
     let limit = limit_of(budget, answers);
     let mut t = [0u32; 7];
     let mut m = [0u32; 12];
     let mut c = [0u32; 9];
+    let mut room = [0u32; 192];
     wire_memap::remember(&mut m, r);
-    engine_words::start_in(&mut t, &mut m, &mut c, x, &mut row, words, buf);
+    engine_words::start_in(&mut t, &mut m, &mut c, x, &mut room, words, buf);
     let n = run_on(
         &mut t,
         &mut m,
         &mut c,
         limit,
         answers,
-        &mut row,
+        &mut room,
         words,
         buf,
         log,
     );
     let e = ending_of(&c);
-    *frame = engine_calls::frame_left(f, e.number == 0, row, before);
+    *frame = engine_calls::frame_left(leaves, e.number == 0, &room, before);
     Ran {
         count: n,
         ending: e,

@@ -31,7 +31,7 @@ const D: usize = 4;
 const E: usize = 5;
 
 // How it stands: 0 and 1 under way, 2 and 3 ended, with the outcome that the next two words tell. Where it is odd, the call runs over
-// the caller's own words, and else over the row.
+// the caller's own words, and else over the room.
 const STATUS: usize = 6;
 
 const NUMBER: usize = 7;
@@ -153,12 +153,12 @@ pub fn start_in(
     m: &mut [u32; 12],
     c: &mut [u32; 9],
     x: EngineCall,
-    row: &mut [u32; 64],
+    room: &mut [u32; 192],
     words: &mut [u32],
     buf: &mut [u8],
 )
-    ensures { λ _. ⌜ StartedIn x (now (t .entry)) (now (m .entry)) (now (c .entry)) (now (row .entry)) (now (words .entry)) (now (buf .entry))
-        (now (t .exit)) (now (m .exit)) (now (c .exit)) (now (row .exit)) (now (words .exit)) (now (buf .exit)) ⌝ }
+    ensures { λ _. ⌜ StartedIn x (now (t .entry)) (now (m .entry)) (now (c .entry)) (now (room .entry)) (now (words .entry)) (now (buf .entry))
+        (now (t .exit)) (now (m .exit)) (now (c .exit)) (now (room .exit)) (now (words .exit)) (now (buf .exit)) ⌝ }
 {
     let n = words.len();
     let k = buf.len();
@@ -169,7 +169,7 @@ pub fn start_in(
         return;
     }
     c[STATUS] = 0;
-    asked(t, m, c, a, row, buf);
+    asked(t, m, c, a, room, buf);
 }
 
 // One step in words that are lent. A call that has ended stays as it is.
@@ -178,12 +178,12 @@ pub fn step_in(
     m: &mut [u32; 12],
     c: &mut [u32; 9],
     a: Answer,
-    row: &mut [u32; 64],
+    room: &mut [u32; 192],
     words: &mut [u32],
     buf: &mut [u8],
 )
-    ensures { λ _. ⌜ SteppedIn a (now (t .entry)) (now (m .entry)) (now (c .entry)) (now (row .entry)) (now (words .entry)) (now (buf .entry))
-        (now (t .exit)) (now (m .exit)) (now (c .exit)) (now (row .exit)) (now (words .exit)) (now (buf .exit)) ⌝ }
+    ensures { λ _. ⌜ SteppedIn a (now (t .entry)) (now (m .entry)) (now (c .entry)) (now (room .entry)) (now (words .entry)) (now (buf .entry))
+        (now (t .exit)) (now (m .exit)) (now (c .exit)) (now (room .exit)) (now (words .exit)) (now (buf .exit)) ⌝ }
 {
     let stands = c[STATUS];
     if stands < ENDED {
@@ -191,24 +191,24 @@ pub fn step_in(
             step_over(t, m, c, a, words, buf);
             return;
         }
-        step_over(t, m, c, a, row, buf);
+        step_over(t, m, c, a, room, buf);
     }
 }
 
-// The step of a call over the row with the value v for an answer, where that is a word of a run and another follows: true, and it is
+// The step of a call over the room with the value v for an answer, where that is a word of a run and another follows: true, and it is
 // taken at once, as nearly all transfers of a memory call are such words; or false, and nothing is done.
 pub fn runs_in(
     t: &mut [u32; 7],
     m: &mut [u32; 12],
     c: &[u32; 9],
     v: u32,
-    row: &mut [u32; 64],
+    room: &mut [u32; 192],
 ) -> bool
-    ensures { λ r. ⌜ TriesIn (Good v) r (now (t .entry)) (now (m .entry)) (now (c .entry)) (now (row .entry))
-        (now (t .exit)) (now (m .exit)) (now (row .exit)) ⌝ }
+    ensures { λ r. ⌜ TriesIn (Good v) r (now (t .entry)) (now (m .entry)) (now (c .entry)) (now (room .entry))
+        (now (t .exit)) (now (m .exit)) (now (room .exit)) ⌝ }
 {
     if c[STATUS] == 0 {
-        return wire_runs::op_runs(t, m, v, row);
+        return wire_runs::op_runs(t, m, v, room);
     }
     false
 }
@@ -219,13 +219,13 @@ pub fn moves_in(
     m: &mut [u32; 12],
     c: &[u32; 9],
     v: u32,
-    row: &mut [u32; 64],
+    room: &mut [u32; 192],
 ) -> bool
-    ensures { λ r. ⌜ TriesIn (Good v) r (now (t .entry)) (now (m .entry)) (now (c .entry)) (now (row .entry))
-        (now (t .exit)) (now (m .exit)) (now (row .exit)) ⌝ }
+    ensures { λ r. ⌜ TriesIn (Good v) r (now (t .entry)) (now (m .entry)) (now (c .entry)) (now (room .entry))
+        (now (t .exit)) (now (m .exit)) (now (room .exit)) ⌝ }
 {
     if c[STATUS] == 0 {
-        return wire_step::op_moves(t, m, v, row);
+        return wire_step::op_moves(t, m, v, room);
     }
     false
 }
@@ -244,7 +244,7 @@ pub fn ending(c: &[u32; 9]) -> CallEnding
     wire_numbers::result_of(wire::outcome_at(c[NUMBER], c[VALUE]))
 }
 
-// The same call, over the row.
+// The same call, over the room.
 pub fn over_row(c: &mut [u32; 9])
     ensures { λ _. ⌜ now (c .exit) ≡ onRow (now (c .entry)) ⌝ }
 {

@@ -3,13 +3,13 @@ use Prim.Native.Nat.{ℕ}
 use lib.Dec.{eqb}
 use mathlib.Core.Bool.{Bool, true, false, cond}
 use mathlib.Core.List.{List, _++_}
-use lib.ListN.{length}
+use lib.ListN.{length, replicate}
 use Rattle.wire.specs.Wire.{Played, play}
 use Rattle.wire_numbers.specs.Results.{endingOf}
 use Rattle.wire_numbers.specs.declared.CallEnding.{CallEnding}
 use Rattle.call.specs.Change.{fresh}
 use Rattle.engine_calls.specs.declared.EngineCall.{EngineCall}
-use Rattle.engine_calls.specs.Calls.{callTree, rowFor, frameOf, wordsLeft, frameLeft}
+use Rattle.engine_calls.specs.Calls.{callTree, zeroRoom, wordsLeft, frameLeft}
 use Rattle.engine_run.specs.Run.{within}
 use Rattle.script_lines.specs.declared.Shown.{Shown}
 use Rattle.script_lines.specs.declared.Shown.the-variants as S
@@ -38,7 +38,7 @@ isFrame b =
 -- the words shown: the frame, or the words that the call was lent, as the run p of the call c leaves them
 abbrev pub wordsShown : EngineCall → Buffer → List ℕ → Played → List ℕ
 wordsShown c b words p =
-    cond (isFrame b) (frameLeft c (p .ending) (p .memory .words) (frameOf words)) (wordsLeft c (p .memory .words) words)
+    cond (isFrame b) (frameLeft c (p .ending) (p .memory .words) (replicate 8 0)) (wordsLeft c (p .memory .words) words)
 
 -- the run p of a call that was lent these words
 abbrev pub runText : EngineCall → Buffer → List ℕ → Played → List ℕ
@@ -46,9 +46,9 @@ runText c b words p =
     let e = endingOf (p .ending) in
     callLines 1 (p .calls) ++ (resultLine e ++ shownText (shownOf e b) (wordsShown c b words p) (p .memory .buf))
 
--- a call on a new engine; the number of answers is the budget. Call 24's frame is the words that it is given.
+-- a call on a new engine; the number of answers is the budget
 unfoldable pub performed : EngineCall → Buffer → List ℕ → List ℕ → List ℕ → List ℕ
-performed c b words buf xs = runText c b words (play (callTree c fresh (rowFor c (frameOf words)) words buf) (within (length xs) xs))
+performed c b words buf xs = runText c b words (play (callTree c fresh zeroRoom words buf) (within (length xs) xs))
 
 unfoldable pub requestText : Request → List ℕ → List ℕ
 requestText Malformed xs = malformedText

@@ -6,7 +6,6 @@ ghost use lib.ListN.{length, drop};
 ghost use lib.Seq.{sets};
 ghost use Rattle.script_form.specs.BigEndian.{word as Number·word, row};
 ghost use Rattle.script_request.specs.Request.{wordsOf, bytesOf};
-ghost use Rattle.engine_calls.specs.Calls.{frameOf};
 ghost use Rattle.script_lines.specs.Listing.{runLines};
 ghost use Rattle.script_lines.specs.Laws.Puts.{Puts};
 ghost use Rattle.script_form.specs.Script.{callEnd, answerCount, answerAt};
@@ -124,21 +123,6 @@ fn shown_of(e: CallEnding, b: Buffer) -> Shown
     }
 }
 
-// The frame in the first eight words that a call is lent; what is missing is 0.
-fn frame_in(words: &[u32]) -> [u32; 8]
-    ensures { λ r. ⌜ r ≡ frameOf (now (words .entry)) ⌝ }
-{
-    let r0 = wire_memap::word_at(words, 0);
-    let r1 = wire_memap::word_at(words, 1);
-    let r2 = wire_memap::word_at(words, 2);
-    let r3 = wire_memap::word_at(words, 3);
-    let sp = wire_memap::word_at(words, 4);
-    let lr = wire_memap::word_at(words, 5);
-    let pc = wire_memap::word_at(words, 6);
-    let xpsr = wire_memap::word_at(words, 7);
-    [r0, r1, r2, r3, sp, lr, pc, xpsr]
-}
-
 fn is_frame(b: Buffer) -> bool
     ensures { λ r. ⌜ r ≡ isFrame b ⌝ }
 {
@@ -188,7 +172,7 @@ fn perform(
         × (r ≤ 1114112) ⌝ }
 {
     let mut log = zero_answers();
-    let mut frame = frame_in(words);
+    let mut frame = [0u32; 8];
     let ran = engine_run::run(
         call::new(),
         c,
@@ -225,7 +209,7 @@ fn word_count(b: Buffer, n: usize) -> usize
         Buffer::Bytes(_) => 0,
         Buffer::GivenWords(size) => behind(n, size as usize) / 4,
         Buffer::GivenBytes => 0,
-        Buffer::Frame => 8,
+        Buffer::Frame => 0,
     }
 }
 

@@ -8,6 +8,7 @@ use lib.ListN.{length, replicate, drop, getD}
 use Rattle.call_connect.specs.declared.ConnectCall.the-variants as N
 use Rattle.call_memory.specs.declared.MemoryCall.the-variants as M
 use Rattle.call_core.specs.declared.Function.{Function}
+use Rattle.call_core.specs.declared.CallFrame.{CallFrame}
 use Rattle.call_core.specs.declared.CoreCall.the-variants as K
 use Rattle.call_fpb.specs.declared.FpbCall.the-variants as P
 use Rattle.call_nrf.specs.declared.NrfCall.the-variants as F
@@ -48,8 +49,13 @@ abbrev pub functionOf : List ℕ → Function
 functionOf a =
     record { «fn_addr» = word a 0; a0 = word a 4; a1 = word a 8; a2 = word a 12; a3 = word a 16; sp = word a 20; trampoline = word a 24 }
 
--- The calls by number, each with the size of its arguments. Call 24's frame is the first eight words of its record; in calls 32
--- and 35 the polls stand before the words.
+-- the frame of call 24
+abbrev pub callFrameOf : List ℕ → CallFrame
+callFrameOf a =
+    record { r0 = word a 0; r1 = word a 4; r2 = word a 8; r3 = word a 12; sp = word a 16; lr = word a 20; pc = word a 24; xpsr = word a 28 }
+
+-- The calls by number, each with the size of its arguments. Call 24's frame stands before its polls; in calls 32 and 35 the polls
+-- stand before the words.
 abbrev pub rows : List ℕ → List Request
 rows a =
     Malformed ∷
@@ -81,7 +87,7 @@ rows a =
     -- 22 to 25
     plain a 2 (E.Core (K.RomFuncLookup (byte a 0) (byte a 1))) ∷
     fixed a 28 (E.Core (K.StartFunction (functionOf a))) B.Frame ∷
-    fixed a 36 (E.Core (K.FinishFunction (word a 32))) (B.GivenWords 0) ∷
+    plain a 36 (E.Core (K.FinishFunction (callFrameOf a) (word a 32))) ∷
     plain a 32 (E.Core (K.CallFunction (functionOf a) (word a 28))) ∷
     -- 26 to 28
     plain a 4 (E.Fpb (P.HwBreakpointSet (word a 0))) ∷
@@ -107,7 +113,7 @@ wordsOf (B.Words n) a = replicate n 0
 wordsOf (B.Bytes n) a = []
 wordsOf (B.GivenWords size) a = row (word a) 4 ((length a - size) / 4) size
 wordsOf B.GivenBytes a = []
-wordsOf B.Frame a = replicate 8 0
+wordsOf B.Frame a = []
 
 unfoldable pub bytesOf : Buffer → List ℕ → List ℕ
 bytesOf b a =

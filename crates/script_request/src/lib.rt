@@ -1,8 +1,9 @@
 // The request of a script: from the number of a call and the bytes behind it to the call and what it is lent.
 ghost use mathlib.Core.Path.{_≡_};
 ghost use Prim.Native.Nat.{_≤_};
-ghost use Rattle.script_request.specs.Request.{fixed as Request·fixed, plain, wordsFollow, bytesFollow, functionOf, readWords, requestOf};
+ghost use Rattle.script_request.specs.Request.{fixed as Request·fixed, plain, wordsFollow, bytesFollow, functionOf, callFrameOf, readWords, requestOf};
 use call_connect::ConnectCall;
+use call_core::CallFrame;
 use call_core::CoreCall;
 use call_core::Function;
 use call_fpb::FpbCall;
@@ -106,6 +107,22 @@ fn function_at(a: &[u8]) -> Function
     }
 }
 
+// The frame of call 24.
+fn call_frame_at(a: &[u8]) -> CallFrame
+    ensures { λ r. ⌜ r ≡ callFrameOf (now (a .entry)) ⌝ }
+{
+    CallFrame {
+        r0: word(a, 0),
+        r1: word(a, 4),
+        r2: word(a, 8),
+        r3: word(a, 12),
+        sp: word(a, 16),
+        lr: word(a, 20),
+        pc: word(a, 24),
+        xpsr: word(a, 28),
+    }
+}
+
 // Call 11.
 fn read_words(a: &[u8], addr: u32, count: u16) -> Request
     ensures { λ r. ⌜ r ≡ readWords (now (a .entry)) addr count ⌝ }
@@ -196,11 +213,10 @@ fn function_request(number: u8, a: &[u8]) -> Request
             EngineCall::Core(CoreCall::StartFunction(function_at(a))),
             Buffer::Frame,
         ),
-        24 => fixed(
+        24 => core(
             a,
             36,
-            EngineCall::Core(CoreCall::FinishFunction(word(a, 32))),
-            Buffer::GivenWords(0),
+            CoreCall::FinishFunction(call_frame_at(a), word(a, 32)),
         ),
         25 => core(a, 32, CoreCall::CallFunction(function_at(a), word(a, 28))),
         _ => fpb_request(number, a),

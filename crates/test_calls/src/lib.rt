@@ -1,5 +1,6 @@
 // For the programs that test the engine: its calls by 01's number, and pieces of text.
 use call_connect::ConnectCall;
+use call_core::CallFrame;
 use call_core::CoreCall;
 use call_core::Function;
 use call_fpb::FpbCall;
@@ -33,8 +34,8 @@ fn memory_call(number: u8, b: u8, w: u32, v: u32) -> MemoryCall {
     }
 }
 
-// Calls 15 to 22, and 24.
-fn core_call(number: u8, b: u8, w: u32, v: u32) -> CoreCall {
+// Calls 15 to 22.
+fn core_call(number: u8, b: u8, v: u32) -> CoreCall {
     match number {
         15 => CoreCall::DebugEnable,
         16 => CoreCall::Halt,
@@ -43,14 +44,12 @@ fn core_call(number: u8, b: u8, w: u32, v: u32) -> CoreCall {
         19 => CoreCall::IsHalted,
         20 => CoreCall::ReadCoreReg(b),
         21 => CoreCall::WriteCoreReg(b, v),
-        22 => CoreCall::RomFuncLookup(b, (v % 256) as u8),
-        _ => CoreCall::FinishFunction(w),
+        _ => CoreCall::RomFuncLookup(b, (v % 256) as u8),
     }
 }
 
-// Calls 23 and 25.
-fn function_call(number: u8, a: &[u32; 8]) -> CoreCall {
-    let f = Function {
+fn function_of(a: &[u32; 8]) -> Function {
+    Function {
         fn_addr: a[0],
         a0: a[1],
         a1: a[2],
@@ -58,11 +57,29 @@ fn function_call(number: u8, a: &[u32; 8]) -> CoreCall {
         a3: a[4],
         sp: a[5],
         trampoline: a[6],
-    };
-    if number == 23 {
-        return CoreCall::StartFunction(f);
     }
-    CoreCall::CallFunction(f, a[7])
+}
+
+fn frame_of(frame: &[u32; 8]) -> CallFrame {
+    CallFrame {
+        r0: frame[0],
+        r1: frame[1],
+        r2: frame[2],
+        r3: frame[3],
+        sp: frame[4],
+        lr: frame[5],
+        pc: frame[6],
+        xpsr: frame[7],
+    }
+}
+
+// Calls 23 to 25.
+fn function_call(number: u8, a: &[u32; 8], frame: &[u32; 8]) -> CoreCall {
+    match number {
+        23 => CoreCall::StartFunction(function_of(a)),
+        24 => CoreCall::FinishFunction(frame_of(frame), a[0]),
+        _ => CoreCall::CallFunction(function_of(a), a[7]),
+    }
 }
 
 // Calls 26 to 28.
@@ -95,8 +112,8 @@ fn plain_call(number: u8, w: u32, v: u32) -> EngineCall {
     if number <= 14 {
         return EngineCall::Memory(memory_call(number, b, w, v));
     }
-    if number <= 24 {
-        return EngineCall::Core(core_call(number, b, w, v));
+    if number <= 22 {
+        return EngineCall::Core(core_call(number, b, v));
     }
     if number <= 28 {
         return EngineCall::Fpb(fpb_call(number, w));
@@ -104,10 +121,10 @@ fn plain_call(number: u8, w: u32, v: u32) -> EngineCall {
     EngineCall::Nrf(nrf_call(number, w, v))
 }
 
-// The call of that number, with its arguments.
-pub fn call_of(number: u8, a: &[u32; 8]) -> EngineCall {
-    if number == 23 || number == 25 {
-        return EngineCall::Core(function_call(number, a));
+// The call of that number, with its arguments; call 24's frame is an array of its own.
+pub fn call_of(number: u8, a: &[u32; 8], frame: &[u32; 8]) -> EngineCall {
+    if 23 <= number && number <= 25 {
+        return EngineCall::Core(function_call(number, a, frame));
     }
     plain_call(number, a[0], a[1])
 }

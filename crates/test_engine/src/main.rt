@@ -27,7 +27,7 @@ fn call_of(number: u8, a: u32) -> EngineCall {
         23 => [0x101, 1, 2, 3, 4, 0x20001000, 0x20000000, 0],
         _ => [a, 9, 0, 0, 0, 0, 0, 0],
     };
-    test_calls::call_of(number, &args)
+    test_calls::call_of(number, &args, &[0; 8])
 }
 
 fn byte(x: u8) {
@@ -244,14 +244,14 @@ fn answer(next: NextStep, bytes: [u8; 16], shown: bool, value: u32, more: u32) -
     std::num::wrapping_add_u32(value, more)
 }
 
-fn first(r: Remembered, number: u8, a: u32, row: &mut [u32; 64], bytes: &mut [u8]) -> StepAnswer {
+fn first(r: Remembered, number: u8, a: u32, room: &mut [u32; 192], bytes: &mut [u8]) -> StepAnswer {
     let mut words = [0u32; 0];
-    engine::start(r, call_of(number, a), row, &mut words, bytes)
+    engine::start(r, call_of(number, a), room, &mut words, bytes)
 }
 
-fn stepped(s: State, value: u32, row: &mut [u32; 64], bytes: &mut [u8]) -> StepAnswer {
+fn stepped(s: State, value: u32, room: &mut [u32; 192], bytes: &mut [u8]) -> StepAnswer {
     let mut words = [0u32; 0];
-    engine::step(s, Answer::Good(value), row, &mut words, bytes)
+    engine::step(s, Answer::Good(value), room, &mut words, bytes)
 }
 
 // A call that asks for some bytes, and so many steps of it that are lent others; each is answered Ok, with so much more each time.
@@ -267,8 +267,8 @@ fn steps(
     asked: &mut [u8],
     bytes: &mut [u8],
 ) {
-    let mut row = [0u32; 64];
-    let mut x = first(r, number, a, &mut row, asked);
+    let mut room = [0u32; 192];
+    let mut x = first(r, number, a, &mut room, asked);
     let mut v = value;
     let mut left = count;
     while 0 < left {
@@ -277,7 +277,7 @@ fn steps(
         let b = x.bytes;
         let s = x.state;
         v = answer(next, b, left < few, v, more);
-        x = stepped(s, v, &mut row, bytes);
+        x = stepped(s, v, &mut room, bytes);
     }
 }
 

@@ -197,7 +197,7 @@ fn run(
 ) -> Ran {
     engine_run::run(
         r,
-        test_calls::call_of(number, a),
+        test_calls::call_of(number, a, frame),
         0xFFFFFFFF,
         answers,
         frame,

@@ -35,6 +35,7 @@ keepSome (C.LoadWords at n) j = keep (C.LoadWords at n) j
 keepSome (C.Patch at skip count word) j = keep (C.Patch at skip count word) j
 keepSome (C.Put at word) j = keep (C.Put at word) j
 keepSome (C.Registers r0 r1 r2 r3 sp lr pc) j = keep (C.Registers r0 r1 r2 r3 sp lr pc) j
+keepSome (C.Frame r0 r1 r2 r3 sp lr pc xpsr) j = keep (C.Frame r0 r1 r2 r3 sp lr pc xpsr) j
 
 -- the job that a call asks for: a change, and then an operation with what follows it, or the end
 abbrev pub asks : Change → Next → (Outcome → Job) → Job
@@ -64,3 +65,4 @@ exec-keep (C.LoadWords at n) j m = refl
 exec-keep (C.Patch at skip count word) j m = refl
 exec-keep (C.Put at word) j m = refl
 exec-keep (C.Registers r0 r1 r2 r3 sp lr pc) j m = refl
+exec-keep (C.Frame r0 r1 r2 r3 sp lr pc xpsr) j m = refl

@@ -32,6 +32,7 @@ parts (C.LoadWords at n) r ws b = refl
 parts (C.Patch at skip count word) r ws b = refl
 parts (C.Put at word) r ws b = refl
 parts (C.Registers r0 r1 r2 r3 sp lr pc) r ws b = refl
+parts (C.Frame r0 r1 r2 r3 sp lr pc xpsr) r ws b = refl
 
 pub same-memory : (c : Change) (r : Remembered) (ws b : List ℕ) (r₂ : Remembered) (ws₂ b₂ : List ℕ)
     → r₂ ≡ rememberedAfter c r → ws₂ ≡ wordsAfter c ws b → b₂ ≡ bufAfter c ws b → changed c (memoryOf r ws b) ≡ memoryOf r₂ ws₂ b₂
@@ -50,6 +51,7 @@ isNothing (C.LoadWords at n) = false
 isNothing (C.Patch at skip count word) = false
 isNothing (C.Put at word) = false
 isNothing (C.Registers r0 r1 r2 r3 sp lr pc) = false
+isNothing (C.Frame r0 r1 r2 r3 sp lr pc xpsr) = false
 
 pub nothing-is : (c : Change) → isNothing c ≡ true → c ≡ C.Nothing
 nothing-is C.Nothing h = refl
@@ -63,3 +65,4 @@ nothing-is (C.LoadWords at n) h = absurd (true≢false (sym h))
 nothing-is (C.Patch at skip count word) h = absurd (true≢false (sym h))
 nothing-is (C.Put at word) h = absurd (true≢false (sym h))
 nothing-is (C.Registers r0 r1 r2 r3 sp lr pc) h = absurd (true≢false (sym h))
+nothing-is (C.Frame r0 r1 r2 r3 sp lr pc xpsr) h = absurd (true≢false (sym h))

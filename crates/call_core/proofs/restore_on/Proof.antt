@@ -1,4 +1,4 @@
--- With no register left the call ends. Otherwise `restoring-more` takes one off, and its value is the row's.
+-- With no register left the call ends. Otherwise `restoring-more` takes one off, and its value is the room's.
 use mathlib.Core.Path.{_∙_}
 use Rattle.call_core.specs.Laws.Turns.{restoring-more}
 use Rattle.call_core.specs.Function.{writeRegs}

@@ -21,5 +21,5 @@ start-spec =
     (λ c. simp (c .before .enum-told3 .given .1) (c .alone3 .ensures)) (λ c. simp (c .before .enum-told4 .given .1) (c .alone4 .ensures))
     (λ c. simp (c .before .enum-told5 .given .1) (c .alone5 .ensures)) (λ c. simp (c .before .before .c .given .1) (c .alone6 .ensures))
     (λ c. simp (c .before .before .c2 .given .1) (c .alone7 .ensures)) (λ c. simp (c .before .before .c3 .given .1) (c .look-up .ensures))
-    (λ c. simp (c .before .before .c4 .given .1) (c .begin .ensures)) (λ c. simp (c .before .before .c5 .given .1) (c .finish .ensures))
+    (λ c. simp (c .before .before .c4 .given .1) (c .begin .ensures)) (λ c. simp (c .before .before .c5 .given .1) (c .finish-from .ensures))
     (λ c. simp (c .before .before .c6 .given .1) (call-is _ _ ∙ c .begin2 .ensures)))

@@ -22,7 +22,7 @@ use Rattle.call_core.specs.Function.{
   writeRegs,
   lookRunning,
   afterWait,
-  finishFunction,
+  finishing,
   BKPT-TWICE,
 }
 use Rattle.call_places.specs.declared.Wait.{Wait}
@@ -95,7 +95,7 @@ findOn F.High low s v = matching s (joined (entryOf s % 4) low v)
 
 -- call 25 goes on with its second half
 abbrev pub endingOf : Bool → ℕ → Job
-endingOf true polls = finishFunction polls
+endingOf true polls = finishing polls
 endingOf false polls = return 0
 
 abbrev pub ending : Plan → Job

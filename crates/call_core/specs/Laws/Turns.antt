@@ -25,7 +25,7 @@ use Rattle.call_core.specs.Function.{
   writeRegs,
   lookRunning,
   afterWait,
-  finishFunction,
+  finishing,
   callFunction,
   clobbered,
 }
@@ -57,7 +57,7 @@ polled-on W.Halt left v h = simp h
 polled-on W.Read left v h = simp h
 polled-on W.Write left v h = simp h
 
-pub finish-more : (n : ℕ) → (n ≡ 0 → ⊥) → finishFunction n ≡ op (O.ReadWord DHCSR) (λ v. attempt (polled W.Halt (n - 1) v) afterWait)
+pub finish-more : (n : ℕ) → (n ≡ 0 → ⊥) → finishing n ≡ op (O.ReadWord DHCSR) (λ v. attempt (polled W.Halt (n - 1) v) afterWait)
     (λ e. afterWait (Failed e))
 unfolding waitStatus
 finish-more zero h = absurd (h refl)

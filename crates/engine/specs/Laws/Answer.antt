@@ -69,9 +69,9 @@ answers-end t m c {e} z h = record {
 }
 
 -- what stands for a tree and is answered steps
-pub answered : {w : Wire} {own : Bool} {t m c row₀ words₀ row words b : List ℕ} (x : StepAnswer) → LentIn own w t m c row₀ words₀ row words b → Answers t m c x
-    → Lent own w x row₀ words₀ row words b
-answered {w} {own} {t} {m} {c} {row₀} {words₀} {row} {words} {b} x l a = record {
+pub answered : {w : Wire} {own : Bool} {t m c room₀ words₀ room words b : List ℕ} (x : StepAnswer) → LentIn own w t m c room₀ words₀ room words b → Answers t m c x
+    → Lent own w x room₀ words₀ room words b
+answered {w} {own} {t} {m} {c} {room₀} {words₀} {room} {words} {b} x l a = record {
   steps = record {
     next = tells .step;
     bytes = tells .hands;
@@ -84,13 +84,13 @@ answered {w} {own} {t} {m} {c} {row₀} {words₀} {row} {words} {b} x l a = rec
 }
   where
     ws : List ℕ
-    ws = cond own words row
+    ws = cond own words room
 
     tells : Tells w (x .next) (x .bytes) (stands m ws b)
     tells = subst (λ (w : Wire). Tells w (x .next) (x .bytes) (stands m ws b)) (sym (l .stand .tree)) (a .tells ws b)
 
-pub stepped : {a : Answer} (s : State) {t m c row₀ words₀ b₀ row words b : List ℕ} (x : StepAnswer) → Fits (s .transfer) (s .op) → CallSized (s .call)
-    → SteppedIn a (s .transfer) (s .op) (s .call) row₀ words₀ b₀ t m c row words b → Answers t m c x → Stepped s a x row₀ words₀ b₀ row words b
+pub stepped : {a : Answer} (s : State) {t m c room₀ words₀ b₀ room words b : List ℕ} (x : StepAnswer) → Fits (s .transfer) (s .op) → CallSized (s .call)
+    → SteppedIn a (s .transfer) (s .op) (s .call) room₀ words₀ b₀ t m c room words b → Answers t m c x → Stepped s a x room₀ words₀ b₀ room words b
 stepped s {t} {m} {c} x f z g a = record {
   lent = answered x (g .lent f z) a;
   stays = λ o h. let y = g .stays o h in a .words
@@ -98,11 +98,11 @@ stepped s {t} {m} {c} x f z g a = record {
       ∙ ap (λ (l : List ℕ). record { transfer = s .transfer; op = s .op; call = l }) (y .2);
 }
 
-pub started : {r : Remembered} {x : EngineCall} {m₀ row₀ words₀ b₀ t m c row words b : List ℕ} (y : StepAnswer) → Remembers r m₀
-    → StartedIn x (replicate 7 0) m₀ (replicate 9 0) row₀ words₀ b₀ t m c row words b → Answers t m c y
-    → Lent (lent x) (callTree x r row₀ words₀ b₀) y row₀ words₀ row words b
-started {r} {x} {m₀} {row₀} {words₀} {b₀} {row = row} {words} {b} y h g a =
-    subst (λ (r : Remembered). Lent (lent x) (callTree x r row₀ words₀ b₀) y row₀ words₀ row words b) (h .is) (answered y (g .lent (refl, h .sized) refl) a)
+pub started : {r : Remembered} {x : EngineCall} {m₀ room₀ words₀ b₀ t m c room words b : List ℕ} (y : StepAnswer) → Remembers r m₀
+    → StartedIn x (replicate 7 0) m₀ (replicate 9 0) room₀ words₀ b₀ t m c room words b → Answers t m c y
+    → Lent (lent x) (callTree x r room₀ words₀ b₀) y room₀ words₀ room words b
+started {r} {x} {m₀} {room₀} {words₀} {b₀} {room = room} {words} {b} y h g a =
+    subst (λ (r : Remembered). Lent (lent x) (callTree x r room₀ words₀ b₀) y room₀ words₀ room words b) (h .is) (answered y (g .lent (refl, h .sized) refl) a)
 
 -- whether an answer is waited for
 flight-awaited : (d : Mode) (m : Memory) (t : Transfer) (k : Outcome → Wire) → not (D.ignoring d) ≡ awaited (flight d m t k)
@@ -122,7 +122,7 @@ awaits-none s z ws b =
     ap (λ (y : Bool). awaited (statusTree (statusAs y (outcomeOf (getD (s .call) 7 0) (getD (s .call) 8 0)))
     (flightTree (s .transfer) (s .op) (s .call) ws b) (stands (s .op) ws b))) (sym z)
 
--- an even number says the same of a call, over the row
+-- an even number says the same of a call, over the room
 even-runs : (n : ℕ) → ltb (n - n % 2) 2 ≡ ltb n 2
 even-runs n = by-runs (ltb n 2) refl
   where

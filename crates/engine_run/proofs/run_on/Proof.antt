@@ -13,20 +13,20 @@ use Rattle.engine_run.proofs.run_on.Statement.{statement}
 use Rattle.engine_run.proofs.run_on.Tie as tie
 
 abbrev Inv-loop : tie.InvT-loop
-Inv-loop t₀ m₀ c₀ limit answers row₀ words₀ buf₀ log₀ i₀ t m c row words buf log i =
+Inv-loop t₀ m₀ c₀ limit answers room₀ words₀ buf₀ log₀ i₀ t m c room words buf log i =
     (length words ≡ length words₀) × (length buf ≡ length buf₀) × (length log ≡ length log₀)
-    × ((own : Bool) (w : Wire) (row₁ words₁ : List ℕ) → LentIn own w t₀ m₀ c₀ row₁ words₁ row₀ words₀ buf₀
-    → Runs own w limit answers row₁ words₁ log₀ i t m c row words buf log)
+    × ((own : Bool) (w : Wire) (room₁ words₁ : List ℕ) → LentIn own w t₀ m₀ c₀ room₁ words₁ room₀ words₀ buf₀
+    → Runs own w limit answers room₁ words₁ log₀ i t m c room words buf log)
 
 abbrev μ-loop : tie.MeasureT-loop
-μ-loop t₀ m₀ c₀ limit answers row₀ words₀ buf₀ log₀ i₀ t m c row words buf log i = limit - i
+μ-loop t₀ m₀ c₀ limit answers room₀ words₀ buf₀ log₀ i₀ t m c room words buf log i = limit - i
 
 pub run-on-spec : {M : Type 1} → statement M
 run-on-spec =
     tie.close (tie.spec Inv-loop μ-loop
-    (λ c. (refl, refl, refl, λ own w row₁ words₁ h. runs-start own w _ _ row₁ words₁ _ _ _ _ _ _ _ h))
+    (λ c. (refl, refl, refl, λ own w room₁ words₁ h. runs-start own w _ _ room₁ words₁ _ _ _ _ _ _ _ h))
     (λ c κs. search needs) (λ c. c .before .before .before .before .loop .inv .0) (λ c. c .before .before .before .before .loop .inv .1) (λ c. c .before .before .before .before .loop .inv .2)
-    (λ c own w row₁ words₁ h. record { runs = c .before .before .before .before .loop .inv .3 own w row₁ words₁ h; over = never-running _ _ (c .before .is-running .ensures) (c .if1 .taken) })
+    (λ c own w room₁ words₁ h. record { runs = c .before .before .before .before .loop .inv .3 own w room₁ words₁ h; over = never-running _ _ (c .before .is-running .ensures) (c .if1 .taken) })
     (λ c κs. omega (arith, c .before .before .before .before .before .before .before .before .before .before .loop-test .taken, c .before .before .before .before .before .before .before .before .before .before .before .before .before .before .before .before .pre))
     (λ c. record { fits = omega (arith, c .before .before .before .before .before .before .before .before .before .before .before .before .before .before .before .before .before .loop-test .taken, c .before .before .before .before .before .before .before .before .before .before .before .before .before .before .before .before .before .before .before .before .before .before .before .fits .limit .fits) })
     (λ c. omega (arith, c .before .before .before .before .before .before .before .before .before .before .before .before .before .before .before .before .before .loop-test .taken))
@@ -34,8 +34,8 @@ run-on-spec =
       k .1 .1 .1 .1 .1 .1 .0 ∙ l .inv .0,
       k .1 .1 .1 .1 .1 .1 .1 .0 ∙ l .inv .1,
       k .1 .1 .1 .1 .1 .1 .1 .1 .0 ∙ l .inv .2,
-      λ own w row₁ words₁ h. runs-turn own w _ _ row₁ words₁ _ (l .i) (l .t) (l .m) (l .c) _ _ _ _
-          (still-running _ _ (c .before .before .before .before .before .before .before .before .before .before .before .before .before .before .before .is-running .ensures) (c .before .before .before .before .before .before .before .before .before .before .before .before .before .before .if1 .left)) (c .before .before .before .before .before .before .before .before .before .before .before .before .before .before .before .before .before .loop-test .taken) (c .before .before .before .before .before .before .before .before .before .before .before .before .before .before .before .before .before .before .before .before .before .before .before .pre) (c .before .before .before .before .before .before .turn .ensures) (l .inv .3 own w row₁ words₁ h),
+      λ own w room₁ words₁ h. runs-turn own w _ _ room₁ words₁ _ (l .i) (l .t) (l .m) (l .c) _ _ _ _
+          (still-running _ _ (c .before .before .before .before .before .before .before .before .before .before .before .before .before .before .before .is-running .ensures) (c .before .before .before .before .before .before .before .before .before .before .before .before .before .before .if1 .left)) (c .before .before .before .before .before .before .before .before .before .before .before .before .before .before .before .before .before .loop-test .taken) (c .before .before .before .before .before .before .before .before .before .before .before .before .before .before .before .before .before .before .before .before .before .before .before .pre) (c .before .before .before .before .before .before .turn .ensures) (l .inv .3 own w room₁ words₁ h),
     ))
     (λ c. c .before .loop .inv .0) (λ c. c .before .loop .inv .1) (λ c. c .before .loop .inv .2)
-    (λ c own w row₁ words₁ h. record { runs = c .before .loop .inv .3 own w row₁ words₁ h; over = λ _. omega (arith, c .loop-test .left) }))
+    (λ c own w room₁ words₁ h. record { runs = c .before .loop .inv .3 own w room₁ words₁ h; over = λ _. omega (arith, c .loop-test .left) }))

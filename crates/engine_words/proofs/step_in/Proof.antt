@@ -10,9 +10,9 @@ use Rattle.engine_words.proofs.step_in.Tie as tie
 pub step-in-spec : {M : Type 1} → statement M
 step-in-spec =
     tie.close (tie.spec (λ c. search needs) (λ c κs. tt) (λ c. search needs) (λ c. search needs)
-    (λ c. let a = c .before .before .before .before .before .before .before .before .before .before .before .before .before .before .before .args in steps-in true (a .a) (a .t .now) (a .m .now) (a .c .now) (a .row .now) (a .words .now) (a .buf .now)
+    (λ c. let a = c .before .before .before .before .before .before .before .before .before .before .before .before .before .before .before .args in steps-in true (a .a) (a .t .now) (a .m .now) (a .c .now) (a .room .now) (a .words .now) (a .buf .now)
     (lt-ltb _ _ (c .before .before .before .before .before .before .before .before .before .before .before .if1 .taken)) (own-words (a .c .now) (c .before .before .before .before .before .before .before .before .before .before .if2 .taken)) (c .before .before .before .before .step-over .ensures) refl)
     (λ c κs. tt) (λ c. search needs)
-    (λ c. let a = c .before .before .before .before .before .before .before .before .before .before .before .before .before .args in steps-in false (a .a) (a .t .now) (a .m .now) (a .c .now) (a .row .now) (a .words .now) (a .buf .now)
+    (λ c. let a = c .before .before .before .before .before .before .before .before .before .before .before .before .before .args in steps-in false (a .a) (a .t .now) (a .m .now) (a .c .now) (a .room .now) (a .words .now) (a .buf .now)
     (lt-ltb _ _ (c .before .before .before .before .before .before .before .before .before .if1 .taken)) (own-row (a .c .now) (c .before .before .before .before .before .before .before .before .before .if1 .taken) (c .before .before .before .before .before .before .before .before .if2 .left)) (c .before .before .step-over2 .ensures) refl)
-    (λ c. let a = c .before .before .before .before .args in ends-again (a .a) (a .t .now) (a .m .now) (a .c .now) (a .row .now) (a .words .now) (a .buf .now) (le-ltb _ _ (c .if1 .left))))
+    (λ c. let a = c .before .before .before .before .args in ends-again (a .a) (a .t .now) (a .m .now) (a .c .now) (a .room .now) (a .words .now) (a .buf .now) (le-ltb _ _ (c .if1 .left))))

@@ -197,19 +197,19 @@ step-finishes a t₀ m₀ c₀ ws₀ b₀ {r} {t₁} {m₁} {ws₁} o e g k = re
     h : Fits t₀ m₀ → Goes (stepTree t₀ m₀ a ws₀) (Finished o) t₁ m₁ ws₁
     h f = subst (λ (y : Went). Goes (stepTree t₀ m₀ a ws₀) y t₁ m₁ ws₁) e (g f)
 
--- The same over a row and the caller's words, of which `own` says which one the call runs over; the other is unchanged.
-pub record LentIn (own : Bool) (w : Wire) (t m c row₀ words₀ row words b : List ℕ) : Type 0 where
-  pub stand : StandsFor w own t m c (cond own words row) b
-  pub other : cond own row words ≡ cond own row₀ words₀
+-- The same over a room and the caller's words, of which `own` says which one the call runs over; the other is unchanged.
+pub record LentIn (own : Bool) (w : Wire) (t m c room₀ words₀ room words b : List ℕ) : Type 0 where
+  pub stand : StandsFor w own t m c (cond own words room) b
+  pub other : cond own room words ≡ cond own room₀ words₀
 
 -- a call is started in the words t₀, m₀ and c₀, of which m₀ has what is remembered
-pub record StartedIn (x : EngineCall) (t₀ m₀ c₀ row₀ words₀ b₀ t m c row words b : List ℕ) : Type 0 where
-  pub lent : Fits t₀ m₀ → CallSized c₀ → LentIn (E.lent x) (callTree x (rememberedOf m₀) row₀ words₀ b₀) t m c row₀ words₀ row words b
+pub record StartedIn (x : EngineCall) (t₀ m₀ c₀ room₀ words₀ b₀ t m c room words b : List ℕ) : Type 0 where
+  pub lent : Fits t₀ m₀ → CallSized c₀ → LentIn (E.lent x) (callTree x (rememberedOf m₀) room₀ words₀ b₀) t m c room₀ words₀ room words b
 
 -- a step; a call that has ended stays as it is
-pub record SteppedIn (a : Answer) (t₀ m₀ c₀ row₀ words₀ b₀ t m c row words b : List ℕ) : Type 0 where
+pub record SteppedIn (a : Answer) (t₀ m₀ c₀ room₀ words₀ b₀ t m c room words b : List ℕ) : Type 0 where
   pub lent : Fits t₀ m₀ → CallSized c₀
-      → LentIn (ownOf c₀) (follow (wordsTree t₀ m₀ c₀ (cond (ownOf c₀) words₀ row₀) b₀) a) t m c row₀ words₀ row words b
+      → LentIn (ownOf c₀) (follow (wordsTree t₀ m₀ c₀ (cond (ownOf c₀) words₀ room₀) b₀) a) t m c room₀ words₀ room words b
   pub stays : (o : Outcome) → statusOf c₀ ≡ Ended o → (t ≡ t₀) × (m ≡ m₀) × (c ≡ c₀)
 
 -- how a call stands that is begun
@@ -217,30 +217,30 @@ begun-set : (n : ℕ) (c : List ℕ) → n < 2 → CallSized c → (ownOf (set c
 begun-set n c l = by-words (λ c. (ownOf (set c 6 n) ≡ eqb (n % 2) 1) × CallSized (set c 6 n) × (statusOf (set c 6 n) ≡ Running))
     (λ _ _ _ _ _ _ _ _ _. (refl, refl, simp (lt-ltb n 2 l))) c
 
-pub starts-in : (n : ℕ) (own : Bool) (x : EngineCall) (y : Asks) (t₀ m₀ c₀ row₀ words₀ b₀ : List ℕ) {t m c row words b : List ℕ} → n < 2
+pub starts-in : (n : ℕ) (own : Bool) (x : EngineCall) (y : Asks) (t₀ m₀ c₀ room₀ words₀ b₀ : List ℕ) {t m c room words b : List ℕ} → n < 2
     → eqb (n % 2) 1 ≡ own → E.lent x ≡ own → jobOf x (length words₀) (length b₀) ≡ asksJob y
-    → AsksIn y t₀ m₀ (set c₀ 6 n) (cond own words₀ row₀) b₀ t m c (cond own words row) b → cond own row words ≡ cond own row₀ words₀
-    → StartedIn x t₀ m₀ c₀ row₀ words₀ b₀ t m c row words b
-starts-in n own x y t₀ m₀ c₀ row₀ words₀ b₀ {t} {m} {c} {row} {words} {b} few e l is k o = record {
+    → AsksIn y t₀ m₀ (set c₀ 6 n) (cond own words₀ room₀) b₀ t m c (cond own words room) b → cond own room words ≡ cond own room₀ words₀
+    → StartedIn x t₀ m₀ c₀ room₀ words₀ b₀ t m c room words b
+starts-in n own x y t₀ m₀ c₀ room₀ words₀ b₀ {t} {m} {c} {room} {words} {b} few e l is k o = record {
   lent = λ f s. let q = begun-set n c₀ few s in
-      subst (λ (own : Bool). LentIn own (exec (jobOf x (length words₀) (length b₀)) (memoryOf (rememberedOf m₀) (cond own words₀ row₀) b₀)) t m c row₀ words₀ row words b) (sym l)
+      subst (λ (own : Bool). LentIn own (exec (jobOf x (length words₀) (length b₀)) (memoryOf (rememberedOf m₀) (cond own words₀ room₀) b₀)) t m c room₀ words₀ room words b) (sym l)
       (record {
-        stand = subst (λ (p : Bool). StandsFor (exec (jobOf x (length words₀) (length b₀)) (stands m₀ (cond own words₀ row₀) b₀)) p t m c (cond own words row) b)
+        stand = subst (λ (p : Bool). StandsFor (exec (jobOf x (length words₀) (length b₀)) (stands m₀ (cond own words₀ room₀) b₀)) p t m c (cond own words room) b)
             (q .0 ∙ e)
-            (stands-for (ap (λ (j : Job). exec j (stands m₀ (cond own words₀ row₀) b₀)) is) (k .asks (q .2) f (q .1)));
+            (stands-for (ap (λ (j : Job). exec j (stands m₀ (cond own words₀ room₀) b₀)) is) (k .asks (q .2) f (q .1)));
         other = o;
       });
 }
 
 -- a step of a call under way, over the words that `own` names
-pub steps-in : (own : Bool) (a : Answer) (t₀ m₀ c₀ row₀ words₀ b₀ : List ℕ) {t m c row words b : List ℕ} → running c₀ ≡ true → ownOf c₀ ≡ own
-    → StepsIn a t₀ m₀ c₀ (cond own words₀ row₀) b₀ t m c (cond own words row) b → cond own row words ≡ cond own row₀ words₀
-    → SteppedIn a t₀ m₀ c₀ row₀ words₀ b₀ t m c row words b
-steps-in own a t₀ m₀ c₀ row₀ words₀ b₀ {t} {m} {c} {row} {words} {b} z w k o = record {
-  lent = λ f s. subst (λ (own : Bool). LentIn own (follow (wordsTree t₀ m₀ c₀ (cond own words₀ row₀) b₀) a) t m c row₀ words₀ row words b) (sym w)
+pub steps-in : (own : Bool) (a : Answer) (t₀ m₀ c₀ room₀ words₀ b₀ : List ℕ) {t m c room words b : List ℕ} → running c₀ ≡ true → ownOf c₀ ≡ own
+    → StepsIn a t₀ m₀ c₀ (cond own words₀ room₀) b₀ t m c (cond own words room) b → cond own room words ≡ cond own room₀ words₀
+    → SteppedIn a t₀ m₀ c₀ room₀ words₀ b₀ t m c room words b
+steps-in own a t₀ m₀ c₀ room₀ words₀ b₀ {t} {m} {c} {room} {words} {b} z w k o = record {
+  lent = λ f s. subst (λ (own : Bool). LentIn own (follow (wordsTree t₀ m₀ c₀ (cond own words₀ room₀) b₀) a) t m c room₀ words₀ room words b) (sym w)
       (record {
-        stand = stands-for (ap (λ (d : Status). follow (statusTree d (flightTree t₀ m₀ c₀ (cond own words₀ row₀) b₀) (stands m₀ (cond own words₀ row₀) b₀)) a) run)
-            (subst (λ (p : Bool). StandsFor (follow (flightTree t₀ m₀ c₀ (cond own words₀ row₀) b₀) a) p t m c (cond own words row) b) w (k .steps run f s));
+        stand = stands-for (ap (λ (d : Status). follow (statusTree d (flightTree t₀ m₀ c₀ (cond own words₀ room₀) b₀) (stands m₀ (cond own words₀ room₀) b₀)) a) run)
+            (subst (λ (p : Bool). StandsFor (follow (flightTree t₀ m₀ c₀ (cond own words₀ room₀) b₀) a) p t m c (cond own words room) b) w (k .steps run f s));
         other = o;
       });
   stays = λ e h. absurd (runs-on e (sym run ∙ h));
@@ -253,8 +253,8 @@ steps-in own a t₀ m₀ c₀ row₀ words₀ b₀ {t} {m} {c} {row} {words} {b}
     runs-on e h = let q : _≡_ {A = ℕ} 0 1 = ap which h in absurd (omega arith)
 
 -- a step of one that has ended
-pub ends-again : (a : Answer) (t m c row words b : List ℕ) → running c ≡ false → SteppedIn a t m c row words b t m c row words b
-ends-again a t m c row words b z = record {
+pub ends-again : (a : Answer) (t m c room words b : List ℕ) → running c ≡ false → SteppedIn a t m c room words b t m c room words b
+ends-again a t m c room words b z = record {
   lent = λ f s. record {
     stand = record { tree = same; fits = f; sized = s; whose = refl; counted = subst (λ (d : Status). CountedIn d t) (sym ended) tt };
     other = refl;
@@ -266,7 +266,7 @@ ends-again a t m c row words b z = record {
     o = outcomeOf (getD c 7 0) (getD c 8 0)
 
     ws : List ℕ
-    ws = cond (ownOf c) words row
+    ws = cond (ownOf c) words room
 
     ended : statusOf c ≡ Ended o
     ended = ap (λ (x : Bool). statusAs x o) z
@@ -285,33 +285,33 @@ own-row c l h = ap (λ (n : ℕ). eqb (n % 2) 1) (none (getD c 6 0) l h)
     none : (n : ℕ) → n < 2 → (n ≡ 1 → ⊥) → n ≡ 0
     none n l h = omega arith
 
--- What a step over the row that does nothing where it answers false leaves: the step with the answer a, of a call under way, or all as
+-- What a step over the room that does nothing where it answers false leaves: the step with the answer a, of a call under way, or all as
 -- it was.
-pub record TriesIn (a : Answer) (r : Bool) (t₀ m₀ c row₀ t m row : List ℕ) : Type 0 where
-  pub moved : r ≡ true → (words b : List ℕ) → SteppedIn a t₀ m₀ c row₀ words b t m c row words b
+pub record TriesIn (a : Answer) (r : Bool) (t₀ m₀ c room₀ t m room : List ℕ) : Type 0 where
+  pub moved : r ≡ true → (words b : List ℕ) → SteppedIn a t₀ m₀ c room₀ words b t m c room words b
   pub goes : r ≡ true → running c ≡ true
-  pub stays : r ≡ false → (t ≡ t₀) × (m ≡ m₀) × (row ≡ row₀)
+  pub stays : r ≡ false → (t ≡ t₀) × (m ≡ m₀) × (room ≡ room₀)
 
-pub tries-in : (v : ℕ) (t₀ m₀ c row₀ : List ℕ) {r : Bool} {t m row : List ℕ} → getD c 6 0 ≡ 0 → Tries (stepTree t₀ m₀ (Good v) row₀) r t₀ m₀ row₀ t m row
-    → TriesIn (Good v) r t₀ m₀ c row₀ t m row
-tries-in v t₀ m₀ c row₀ z g = record {
-  moved = λ e words b. steps-in false (Good v) t₀ m₀ c row₀ words b (ap (λ (n : ℕ). ltb n 2) z) (ap (λ (n : ℕ). eqb (n % 2) 1) z)
-      (step-moves (Good v) t₀ m₀ c row₀ b refl (g .moved e)) refl;
+pub tries-in : (v : ℕ) (t₀ m₀ c room₀ : List ℕ) {r : Bool} {t m room : List ℕ} → getD c 6 0 ≡ 0 → Tries (stepTree t₀ m₀ (Good v) room₀) r t₀ m₀ room₀ t m room
+    → TriesIn (Good v) r t₀ m₀ c room₀ t m room
+tries-in v t₀ m₀ c room₀ z g = record {
+  moved = λ e words b. steps-in false (Good v) t₀ m₀ c room₀ words b (ap (λ (n : ℕ). ltb n 2) z) (ap (λ (n : ℕ). eqb (n % 2) 1) z)
+      (step-moves (Good v) t₀ m₀ c room₀ b refl (g .moved e)) refl;
   goes = λ e. ap (λ (n : ℕ). ltb n 2) z;
   stays = g .stays;
 }
 
-pub tries-none : (a : Answer) (t m c row : List ℕ) → TriesIn a false t m c row t m row
-tries-none a t m c row = record {
+pub tries-none : (a : Answer) (t m c room : List ℕ) → TriesIn a false t m c room t m room
+tries-none a t m c room = record {
   moved = λ e. absurd (true≢false (sym e));
   goes = λ e. absurd (true≢false (sym e));
   stays = λ _. (refl, refl, refl);
 }
 
 -- a step from words that are as they were
-pub stepped-from : (a : Answer) (t₀ m₀ c₀ row₀ words₀ b₀ : List ℕ) {t₁ m₁ row₁ t m c row words b : List ℕ} → (t₁ ≡ t₀) × (m₁ ≡ m₀) × (row₁ ≡ row₀)
-    → SteppedIn a t₁ m₁ c₀ row₁ words₀ b₀ t m c row words b → SteppedIn a t₀ m₀ c₀ row₀ words₀ b₀ t m c row words b
-stepped-from a t₀ m₀ c₀ row₀ words₀ b₀ {t₁} {m₁} {row₁} {t} {m} {c} {row} {words} {b} e g =
-    subst (λ (l : List ℕ). SteppedIn a l m₀ c₀ row₀ words₀ b₀ t m c row words b) (e .0)
-    (subst (λ (l : List ℕ). SteppedIn a t₁ l c₀ row₀ words₀ b₀ t m c row words b) (e .1)
-    (subst (λ (l : List ℕ). SteppedIn a t₁ m₁ c₀ l words₀ b₀ t m c row words b) (e .2) g))
+pub stepped-from : (a : Answer) (t₀ m₀ c₀ room₀ words₀ b₀ : List ℕ) {t₁ m₁ room₁ t m c room words b : List ℕ} → (t₁ ≡ t₀) × (m₁ ≡ m₀) × (room₁ ≡ room₀)
+    → SteppedIn a t₁ m₁ c₀ room₁ words₀ b₀ t m c room words b → SteppedIn a t₀ m₀ c₀ room₀ words₀ b₀ t m c room words b
+stepped-from a t₀ m₀ c₀ room₀ words₀ b₀ {t₁} {m₁} {room₁} {t} {m} {c} {room} {words} {b} e g =
+    subst (λ (l : List ℕ). SteppedIn a l m₀ c₀ room₀ words₀ b₀ t m c room words b) (e .0)
+    (subst (λ (l : List ℕ). SteppedIn a t₁ l c₀ room₀ words₀ b₀ t m c room words b) (e .1)
+    (subst (λ (l : List ℕ). SteppedIn a t₁ m₁ c₀ l words₀ b₀ t m c room words b) (e .2) g))

@@ -14,37 +14,36 @@ use Rattle.script.proofs.perform.Tie as tie
 pub perform-spec : {M : Type 1} → statement M
 perform-spec =
     tie.close (tie.spec
-    (λ c κs. search needs) (λ c κs. search needs) (λ c κs. search needs) (λ c. search needs) (λ c. search needs) (λ c κs. search needs)
-    (λ c. search needs)
+    (λ c κs. search needs) (λ c κs. search needs) (λ c. search needs) (λ c. search needs) (λ c κs. search needs) (λ c. search needs)
     (λ c. let d = c .before .before .before .before .before .before .before .before in
     let new = d .before .before .before .before .before in
-    let framed = new .before in let zeros = framed .before .before in let e = zeros .before .before .before .before .before in
+    let zeros = new .before in let e = zeros .before .before .before .before .before in
     count-fits (e .args .c) (e .args .b) (e .args .words .now) (e .args .buf .now) (e .args .answers .now)
-    (new .new .ensures) (framed .frame-in .ensures) (d .run .ensures)
+    (new .new .ensures) (d .run .ensures)
     (omega (arith, e .pre .0, zeros .zero-answers .ensures)))
     (λ c. let d = c .before .before .before .before .before .before .before .before .before in
     let new = d .before .before .before .before .before in
-    let framed = new .before in let zeros = framed .before .before in let e = zeros .before .before .before .before .before in
+    let zeros = new .before in let e = zeros .before .before .before .before .before in
     omega (
       arith,
       count-fits (e .args .c) (e .args .b) (e .args .words .now) (e .args .buf .now) (e .args .answers .now)
-          (new .new .ensures) (framed .frame-in .ensures) (d .run .ensures)
+          (new .new .ensures) (d .run .ensures)
           (omega (arith, e .pre .0, zeros .zero-answers .ensures)),
       length-take (d .run .result .count) (d .run .last .1 .1 .1 .1 .1 .1 .1 .0),
     ))
     (λ c κs. let d = c .before .before .before .before .before .before .before .before .before .before .before .before in
     let new = d .before .before .before .before .before in
-    let framed = new .before in let zeros = framed .before .before in let e = zeros .before .before .before .before .before in (
+    let zeros = new .before in let e = zeros .before .before .before .before .before in (
       omega (
         arith,
         e .pre .0,
         count-most (e .args .c) (e .args .b) (e .args .words .now) (e .args .buf .now) (e .args .answers .now)
-            (new .new .ensures) (framed .frame-in .ensures) (d .run .ensures)
+            (new .new .ensures) (d .run .ensures)
             (omega (arith, e .pre .0, zeros .zero-answers .ensures)),
         length-take (d .run .result .count) (d .run .last .1 .1 .1 .1 .1 .1 .1 .0),
       ),
       frame-length (e .args .c) (e .args .b) (e .args .words .now) (e .args .buf .now) (e .args .answers .now)
-          (new .new .ensures) (framed .frame-in .ensures) (d .run .ensures)
+          (new .new .ensures) (d .run .ensures)
           (omega (arith, e .pre .0, zeros .zero-answers .ensures)),
       omega (arith, e .pre .1, d .run .kept .1 .1 .1 .1 .1 .0),
       omega (arith, e .pre .2, d .run .kept .1 .1 .1 .1 .1 .1 .0),
@@ -52,11 +51,11 @@ perform-spec =
     (λ c. search needs) (λ c. search needs) (λ c. search needs)
     (λ c. let d = c .before .before .before .before .before .before .before .before .before .before .before .before .before .before .before in
     let new = d .before .before .before .before .before in
-    let framed = new .before in let zeros = framed .before .before in let e = zeros .before .before .before .before .before in
+    let zeros = new .before in let e = zeros .before .before .before .before .before in
     let p = c .before .before in (
       subst (λ (t : List ℕ). Puts (e .args .out .now) 0 t (p .put-performed .last .0) (p .put-performed .result))
           (performed-text (e .args .c) (e .args .b) (e .args .words .now) (e .args .buf .now) (e .args .answers .now)
-          (new .new .ensures) (framed .frame-in .ensures) (d .run .ensures)
+          (new .new .ensures) (d .run .ensures)
           (omega (arith, e .pre .0, zeros .zero-answers .ensures))) (p .put-performed .ensures .0),
       p .put-performed .ensures .1,
     )))

@@ -17,7 +17,7 @@ wordCount (B.Words k) n = k
 wordCount (B.Bytes k) n = 0
 wordCount (B.GivenWords size) n = (n - size) / 4
 wordCount B.GivenBytes n = 0
-wordCount B.Frame n = 8
+wordCount B.Frame n = 0
 
 abbrev pub byteCount : Buffer → ℕ → ℕ
 byteCount B.Nothing n = 0

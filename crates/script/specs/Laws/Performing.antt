@@ -4,7 +4,7 @@ use mathlib.Core.Bool.{Bool, true, false, cond}
 use mathlib.Core.Path.{_≡_, refl, ap, sym, subst, _∙_}
 use mathlib.Core.List.{List, [], _∷_, _++_, map}
 use native.Mathlib.Omega.{arith}
-use lib.ListN.{length, take, drop, length-take, length-map}
+use lib.ListN.{length, take, drop, replicate, length-take, length-map}
 use lib.Seq.{sets, sets-eq, take-at, length-sets}
 use Rattle.wire.specs.Wire.{Wire, done, ask, tell, Played, play, succeeds}
 use Rattle.wire.specs.declared.Answer.{Answer}
@@ -15,9 +15,7 @@ use Rattle.wire_numbers.specs.declared.CallEnding.{CallEnding}
 use Rattle.call.specs.Change.{fresh}
 use Rattle.engine_calls.specs.declared.EngineCall.{EngineCall}
 use Rattle.engine_run.specs.declared.Ran.{Ran}
-use Rattle.engine_calls.specs.Calls.{callTree, rowFor, frameOf, frameFor, leave}
-use Rattle.engine_calls.specs.declared.Frame.{Frame}
-use Rattle.engine_calls.specs.declared.Frame.the-variants as F
+use Rattle.engine_calls.specs.Calls.{callTree, zeroRoom, leavesFrame, leave}
 use Rattle.engine_run.specs.Run.{within, RanAs}
 use Rattle.script_lines.specs.Listing.{runLines, listed}
 use Rattle.script_lines.specs.Laws.Text.{listed-all}
@@ -43,27 +41,23 @@ play-most (tell m c w) (a ∷ rest) = omega (arith, play-most w rest)
 front : (l t : List ℕ) → length t ≤ length l → take (length t) (sets l 0 t) ≡ t
 front l t h = ap (λ (x : List ℕ). take (length t) x) (sets-eq t l 0 (omega arith)) ∙ take-at t _ (length t) refl
 
-frame-eight : (f : Frame) (ok : Bool) (ws words : List ℕ) → length (leave f ok ws (frameOf words)) ≡ 8
-frame-eight F.Nowhere ok ws words = refl
-frame-eight F.Found ok ws words = refl
-frame-eight F.Left true ws words = refl
-frame-eight F.Left false ws words = refl
+frame-eight : (leaves ok : Bool) (ws : List ℕ) → length (leave leaves ok ws (replicate 8 0)) ≡ 8
+frame-eight true true ws = refl
+frame-eight true false ws = refl
+frame-eight false ok ws = refl
 
--- new is what the engine remembers at first, and given the frame that it is lent
-module _ (c : EngineCall) (b : Buffer) (words₀ buf₀ answers : List ℕ) {new : Remembered} {given : List ℕ} (fresh-new : new ≡ fresh)
-    (frame-given : given ≡ frameOf words₀) {r : Ran} {frame words buf l₀ l : List ℕ}
-    (ran : RanAs c (play (callTree c new (rowFor c given) words₀ buf₀) (within (length answers) answers)) r given words₀ frame words buf l₀ l)
+-- new is what the engine remembers at first
+module _ (c : EngineCall) (b : Buffer) (words₀ buf₀ answers : List ℕ) {new : Remembered} (fresh-new : new ≡ fresh)
+    {r : Ran} {frame words buf l₀ l : List ℕ}
+    (ran : RanAs c (play (callTree c new zeroRoom words₀ buf₀) (within (length answers) answers)) r (replicate 8 0) words₀ frame words buf l₀ l)
     (fits : length answers ≤ length l₀) where
-  h : RanAs c (play (callTree c fresh (rowFor c (frameOf words₀)) words₀ buf₀) (within (length answers) answers)) r (frameOf words₀) words₀ frame
-      words buf l₀ l
+  h : RanAs c (play (callTree c fresh zeroRoom words₀ buf₀) (within (length answers) answers)) r (replicate 8 0) words₀ frame words buf l₀ l
   h =
-      subst (λ (z : Remembered). RanAs c (play (callTree c z (rowFor c (frameOf words₀)) words₀ buf₀) (within (length answers) answers)) r
-      (frameOf words₀) words₀ frame words buf l₀ l) fresh-new
-      (subst (λ (z : List ℕ). RanAs c (play (callTree c new (rowFor c z) words₀ buf₀) (within (length answers) answers)) r z words₀ frame words buf
-      l₀ l) frame-given ran)
+      subst (λ (z : Remembered). RanAs c (play (callTree c z zeroRoom words₀ buf₀) (within (length answers) answers)) r (replicate 8 0) words₀
+      frame words buf l₀ l) fresh-new ran
 
   run : Played
-  run = play (callTree c fresh (rowFor c (frameOf words₀)) words₀ buf₀) (within (length answers) answers)
+  run = play (callTree c fresh zeroRoom words₀ buf₀) (within (length answers) answers)
 
   pub count-most : r .count ≤ length answers
   unfolding run
@@ -71,7 +65,7 @@ module _ (c : EngineCall) (b : Buffer) (words₀ buf₀ answers : List ℕ) {new
       omega (
         arith,
         h .count,
-        play-most (callTree c fresh (rowFor c (frameOf words₀)) words₀ buf₀) (within (length answers) answers),
+        play-most (callTree c fresh zeroRoom words₀ buf₀) (within (length answers) answers),
         length-map (take (length answers) answers) answerOf,
         length-take (length answers) answers,
       )
@@ -91,7 +85,7 @@ module _ (c : EngineCall) (b : Buffer) (words₀ buf₀ answers : List ℕ) {new
 
   pub frame-length : length frame ≡ 8
   unfolding run
-  frame-length = ap length (h .framed) ∙ frame-eight (frameFor c) (succeeds (run .ending)) (run .memory .words) words₀
+  frame-length = ap length (h .framed) ∙ frame-eight (leavesFrame c) (succeeds (run .ending)) (run .memory .words)
 
   pub performed-text : runLines (take (r .count) l) (r .ending) (shownOf (r .ending) b) (cond (isFrame b) frame words) buf
       ≡ performed c b words₀ buf₀ answers

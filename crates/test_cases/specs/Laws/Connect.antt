@@ -33,7 +33,8 @@ use Rattle.target.specs.declared.DpRegister.the-variants as D
 use Rattle.target.specs.declared.Target.{Target}
 use Rattle.target.specs.declared.Act.the-variants.{Deliver}
 use Rattle.target_line.specs.Talk.{talk}
-use Rattle.test_cases.specs.Laws.Given.{Ends, connecting, Ready, row}
+use Rattle.engine_calls.specs.Calls.{zeroRoom}
+use Rattle.test_cases.specs.Laws.Given.{Ends, connecting, Ready}
 
 -- how the tree w ends over the target t under the budget n
 record Over (w : Wire) (n : ℕ) (t : Target) (mem : List ℕ) (e : Ending) (count : ℕ) : Type 0 where
@@ -182,12 +183,12 @@ module _ (r : Remembered) (words buf : List ℕ) (budget : ℕ) (t : Target) (me
   -- d below 1024: connected, after ten transport calls and d + 1 polls
   pub connects : t .d < 1024 → 11 + t .d ≤ budget → Ends (connecting r words buf budget t mem) (ended (Value (t .dpidr))) (11 + t .d)
   connects lt le =
-      let x = call-ends budget (memoryOf r row buf) t mem (ended (Value (t .dpidr))) (suc (t .d)) h (omega arith)
+      let x = call-ends budget (memoryOf r zeroRoom buf) t mem (ended (Value (t .dpidr))) (suc (t .d)) h (omega arith)
       (λ m. polls-end 1024 (t .d) (t .dpidr) (budget - 10) m t mem lt (omega arith)) .ends in
       record { ending = x .ending; calls = omega (arith, x .calls) }
 
   -- d at least 1024: PowerUpTimeout, after ten transport calls and 1024 polls
   pub times-out : 1024 ≤ t .d → 1034 ≤ budget → Ends (connecting r words buf budget t mem) (ended (Failed E.PowerUpTimeout)) 1034
   times-out lt le =
-      call-ends budget (memoryOf r row buf) t mem (ended (Failed E.PowerUpTimeout)) 1024 h (omega arith)
+      call-ends budget (memoryOf r zeroRoom buf) t mem (ended (Failed E.PowerUpTimeout)) 1024 h (omega arith)
       (λ m. polls-fail 1024 (t .d) (t .dpidr) (budget - 10) m t mem lt (omega arith)) .ends

@@ -11,7 +11,7 @@ use Rattle.wire.specs.declared.Answer.{Answer}
 use Rattle.wire.specs.declared.Answer.the-variants.{SwdError}
 use Rattle.call_connect.specs.declared.ConnectCall.the-variants as K
 use Rattle.call_memory.specs.declared.MemoryCall.the-variants as M
-use Rattle.engine_calls.specs.Calls.{callTree}
+use Rattle.engine_calls.specs.Calls.{callTree, zeroRoom}
 use Rattle.engine_calls.specs.declared.EngineCall.{EngineCall}
 use Rattle.engine_calls.specs.declared.EngineCall.the-variants as N
 use Rattle.target.specs.DebugPort.{powered}
@@ -50,13 +50,9 @@ listing =
 abbrev pub known : Remembered
 known = record { select = 0; csw = true; apsel = 0 }
 
--- the row that a call's runs go over, before it has any words
-abbrev pub row : List ℕ
-row = replicate 64 0
-
 -- one transfer: call 8 writes 7 to AP register 0, and SELECT stands
 abbrev pub oneTransfer : List Answer → Played
-oneTransfer answers = play (callTree (N.Memory (M.ApRegWrite 0 7)) known row [] []) answers
+oneTransfer answers = play (callTree (N.Memory (M.ApRegWrite 0 7)) known zeroRoom [] []) answers
 
 -- n WAITs, and then other answers
 abbrev pub afterWaits : ℕ → List Answer → List Answer
@@ -65,11 +61,11 @@ afterWaits (suc n) rest = SwdError 2 ∷ afterWaits n rest
 
 -- call 13 reads 6 bytes at 0x20000003: a partial word, a run of one, a partial word
 abbrev pub sixBytes : List Answer → Played
-sixBytes answers = play (callTree (N.Memory (M.ReadMem 0x20000003)) known row [] (replicate 6 0)) answers
+sixBytes answers = play (callTree (N.Memory (M.ReadMem 0x20000003)) known zeroRoom [] (replicate 6 0)) answers
 
 -- call 14 writes the byte x at 0x20000001: the word is read, changed and written back
 abbrev pub oneByte : ℕ → List Answer → Played
-oneByte x answers = play (callTree (N.Memory (M.WriteMem 0x20000001)) known row [] (x ∷ [])) answers
+oneByte x answers = play (callTree (N.Memory (M.WriteMem 0x20000001)) known zeroRoom [] (x ∷ [])) answers
 
 abbrev pub call3 : EngineCall
 call3 = N.Connect K.ConnectSwd
@@ -77,7 +73,7 @@ call3 = N.Connect K.ConnectSwd
 -- call 3 over a target and a line that delivers (no acts), whatever is remembered, lent and in memory
 abbrev pub connecting : Remembered → List ℕ → List ℕ → ℕ → Target → List ℕ → Played
 connecting r words buf budget t mem =
-    play (callTree call3 r row words buf) (talk (callTree call3 r row words buf) budget [] t mem .answers)
+    play (callTree call3 r zeroRoom words buf) (talk (callTree call3 r zeroRoom words buf) budget [] t mem .answers)
 
 -- DPIDR is neither 0 nor all ones, and the power-up requests are clear: not both stand
 pub record Ready (t : Target) : Type 0 where

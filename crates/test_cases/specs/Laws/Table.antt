@@ -23,7 +23,7 @@ use Rattle.call_memory.specs.Memory.{runWords, turns, memoryJob}
 use Rattle.call_memory.specs.declared.MemoryCall.the-variants as M
 use Rattle.call_fpb.specs.Breakpoint.{fpbCompValue}
 use Rattle.call_fpb.specs.declared.CompValue.the-variants as P
-use Rattle.engine_calls.specs.Calls.{callTree}
+use Rattle.engine_calls.specs.Calls.{callTree, zeroRoom}
 use Rattle.engine_calls.specs.declared.EngineCall.the-variants as N
 use Rattle.script_lines.specs.Text.{digits, hex, together}
 use Rattle.script_lines.specs.Listing.{callLines}
@@ -32,7 +32,7 @@ use Rattle.script_request.specs.Request.{requestOf, wordsOf, bytesOf}
 use Rattle.script_form.specs.Script.{goodAnswers, wellFormed}
 use Rattle.script.specs.Output.{performed, requestText, outputOf}
 use Rattle.target.specs.declared.Target.{Target}
-use Rattle.test_cases.specs.Laws.Given.{Ends, script, listing, known, row, oneTransfer, afterWaits, sixBytes, oneByte, connecting, Ready}
+use Rattle.test_cases.specs.Laws.Given.{Ends, script, listing, known, oneTransfer, afterWaits, sixBytes, oneByte, connecting, Ready}
 use Rattle.test_cases.specs.Laws.Connect.{connects, times-out}
 
 pub record Table : Type 0 where
@@ -91,10 +91,10 @@ table = record {
 
 -- the listing's call at every address, for every value read
 pub listed-any : (addr a b c d v : ℕ)
-    → play (callTree (N.Memory (M.ReadWord addr)) fresh row [] []) (Good a ∷ Good b ∷ Good c ∷ Good d ∷ Good v ∷ [])
+    → play (callTree (N.Memory (M.ReadWord addr)) fresh zeroRoom [] []) (Good a ∷ Good b ∷ Good c ∷ Good d ∷ Good v ∷ [])
     ≡ record {
       calls = C.Transfer 8 0 ∷ C.Transfer 1 0x23000012 ∷ C.Transfer 5 addr ∷ C.Transfer 0xF 0 ∷ C.Transfer 0xE 0 ∷ [];
-      memory = memoryOf known row [];
+      memory = memoryOf known zeroRoom [];
       ending = ended (Value v);
     }
 unfolding play exec memoryJob perform transfer tries

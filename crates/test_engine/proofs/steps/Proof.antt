@@ -6,10 +6,10 @@ use Rattle.test_engine.proofs.steps.Statement.{statement}
 use Rattle.test_engine.proofs.steps.Tie as tie
 
 abbrev Inv-loop : tie.InvT-loop
-Inv-loop number a value more count few asked bytes₀ row₀ x₀ v₀ left₀ bytes row x v left = length bytes ≡ length bytes₀
+Inv-loop number a value more count few asked bytes₀ room₀ x₀ v₀ left₀ bytes room x v left = length bytes ≡ length bytes₀
 
 abbrev μ-loop : tie.MeasureT-loop
-μ-loop number a value more count few asked bytes₀ row₀ x₀ v₀ left₀ bytes row x v left = left
+μ-loop number a value more count few asked bytes₀ room₀ x₀ v₀ left₀ bytes room x v left = left
 
 pub steps-spec : {M : Type 1} → statement M
 steps-spec = tie.close (tie.spec
