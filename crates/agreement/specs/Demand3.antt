@@ -17,20 +17,24 @@ use Rattle.target.specs.Deliver.{transferElse}
 use Rattle.target.specs.declared.Target.{Target}
 use Rattle.target.specs.declared.Byte.{Byte}
 use Rattle.target.specs.declared.Byte.the-variants as B
-use Rattle.session_rules.specs.Admits.{isConnect}
 use Rattle.session_phase.specs.Phase.{errorBut, loss, isSpent, opensAfter}
-use Rattle.session_rules.specs.Session.{Standing, Result, refused, ran, succeeded, called}
-use Rattle.session_rules.specs.declared.SessionCall.{SessionCall}
-use Rattle.session_rules.specs.declared.SessionCall.the-variants as S
-use Rattle.session_items.specs.History.{Item, Moment, Made, lastOf}
+use Rattle.session_calls.specs.Calls.{isConnect}
+use Rattle.session_calls.specs.Session.{Standing, ROOM, Lent, Result, refused, ran, succeeded, called}
+use Rattle.session_calls.specs.declared.SessionCall.{SessionCall}
+use Rattle.session_calls.specs.declared.SessionCall.the-variants as S
+use Rattle.agreement.specs.History.{Item, Moment, Made, lastOf}
 
--- the buffers of a list hold bytes
+-- what is lent for a list is as the types of the code have it: the buffers hold bytes, and the rooms have their size
 abbrev pub Bytes : List ℕ → Type 0
 Bytes l = (i : ℕ) → getD l i 0 < 256
 
-abbrev pub Buffers : List Item → Type 0
-Buffers [] = Unit {0}
-Buffers (i ∷ items) = Bytes (i .buf) × Buffers items
+pub record Typed (l : Lent) : Type 0 where
+  pub bytes : Bytes (l .buf)
+  pub room : length (l .room) ≡ ROOM
+
+abbrev pub AllTyped : List Item → Type 0
+AllTyped [] = Unit {0}
+AllTyped (i ∷ items) = Typed (i .lent) × AllTyped items
 
 -- Clause 1: open by the calls, their results and the answers alone.
 abbrev pub isTransfer : Call → Bool
@@ -109,8 +113,8 @@ abbrev pub MemoryKept : SessionCall → Made → Type 0
 MemoryKept S.ConnectSwd m = Unit {0}
 MemoryKept (S.ReadWord addr) m = Reads m addr 4 (valueBytes (m .came .ending))
 MemoryKept (S.WriteWord addr word) m = Writes m addr (leBytes word)
-MemoryKept (S.ReadMem addr) m = Reads m addr (length (m .item .buf)) (m .came .buf)
-MemoryKept (S.WriteMem addr) m = Writes m addr (m .item .buf)
+MemoryKept (S.ReadMem addr) m = Reads m addr (length (m .item .lent .buf)) (m .came .lent .buf)
+MemoryKept (S.WriteMem addr) m = Writes m addr (m .item .lent .buf)
 MemoryKept (S.Core c) m = Unit {0}
 MemoryKept (S.Fpb c) m = Unit {0}
 
@@ -128,15 +132,15 @@ pub record InStep (x : Moment) (ms : List Made) : Type 0 where
 -- answer that no target with another DPIDR gives.
 pub record Told : Type 0 where
   pub call : SessionCall
-  pub buf : List ℕ
+  pub lent : Lent
   pub answers : List Answer
 
 unfoldable pub standingAfter : Standing → List Told → Standing
 standingAfter s [] = s
-standingAfter s (x ∷ xs) = standingAfter (called s (x .call) (x .buf) (x .answers) .after) xs
+standingAfter s (x ∷ xs) = standingAfter (called s (x .call) (x .lent) (x .answers) .after) xs
 
 unfoldable pub openTold : Bool → Standing → List Told → Bool
 openTold was s [] = was
 openTold was s (x ∷ xs) =
-    let r = called s (x .call) (x .buf) (x .answers) in
+    let r = called s (x .call) (x .lent) (x .answers) in
     openTold (openNext was (x .call) (r .calls) (x .answers) (r .ending)) (r .after) xs

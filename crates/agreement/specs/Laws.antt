@@ -6,6 +6,7 @@ pub mod Ports
 pub mod Sound
 pub mod Jobs
 pub mod Calls
+pub mod Plans
 pub mod Keep
 pub mod Aborts
 pub mod Opens
@@ -25,4 +26,3 @@ pub mod WriteTurns
 pub mod OneWord
 pub mod Memory
 pub mod Theorem
-pub mod InStep

@@ -1,89 +1,115 @@
--- What the session answers to a start and to a step, and how it stands then: for every session, call, answer and buffer.
-use Prim.Native.Nat.{ℕ}
-use mathlib.Core.Bool.{Bool, false, _&&_, _||_}
+-- What a session answers to a start and to a step, and how it stands then: for every session, order, answer and everything lent.
+use Prim.Native.Nat.{ℕ, _-_}
+use mathlib.Core.Bool.{Bool, false, _&&_, _||_, cond}
 use mathlib.Core.List.{List, []}
 use mathlib.Core.Path.{_≡_}
-use lib.ListN.{length}
-use Rattle.wire.specs.Bytes.{padded}
-use Rattle.wire.specs.Wire.{Wire, memoryOf, done, ask, tell, follow, ended, succeeds}
+use lib.Dec.{eqb}
+use lib.ListN.{getD}
+use Rattle.wire.specs.Bytes.{handed, padded}
+use Rattle.wire.specs.Wire.{Wire, memoryOf, follow, Ending}
 use Rattle.wire.specs.declared.Answer.{Answer}
 use Rattle.wire_numbers.specs.Results.{endingOf}
+use Rattle.wire_numbers.specs.Numbers.{numbersOf}
 use Rattle.wire_numbers.specs.declared.CallEnding.{CallEnding}
-use Rattle.engine_calls.specs.Calls.{leave}
 use Rattle.wire_memap.specs.Laws.Doing.{rememberedOf}
+use Rattle.call_core.specs.declared.CallFrame.{CallFrame}
 use Rattle.engine_words.specs.Status.{statusOf, CountedIn}
 use Rattle.engine.specs.Laws.State.{stateTree}
-use Rattle.engine.specs.Step.{nextOf, bytesOf, memoryIn, awaited}
-use Rattle.engine.specs.declared.NextStep.the-variants as N
-use Rattle.session_rules.specs.Admits.{refusal, refusalNumber}
-use Rattle.session_phase.specs.Phase.{loss, isOpen, phaseEnded}
-use Rattle.session_rules.specs.Session.{Standing, sessionTree, kindOf, frameBy, Result, refused, ran}
-use Rattle.session_rules.specs.declared.SessionCall.{SessionCall}
+use Rattle.engine.specs.Step.{memoryIn, awaited}
+use Rattle.session_phase.specs.Phase.{loss, Now, over, due, nowOf, isOpen, phaseNow, phaseLeft}
+use Rattle.session_phase.specs.declared.Kind.{Kind}
+use Rattle.session_phase.specs.declared.Phase.{Phase}
+use Rattle.session_phase.specs.declared.Phase.the-variants as P
+use Rattle.session_rules.specs.Refusals.{refusalNumber}
 use Rattle.session_rules.specs.declared.Refusal.{Refusal}
 use Rattle.session_rules.specs.declared.Refusal.the-variants as R
 use Rattle.session_rules.specs.declared.Check.{Check}
 use Rattle.session_rules.specs.declared.Check.the-variants.{Pass, Refuse}
-use Rattle.session_phase.specs.declared.Kind.{Kind}
-use Rattle.session_phase.specs.declared.Phase.{Phase}
-use Rattle.session_phase.specs.declared.Phase.the-variants as P
+use Rattle.session_calls.specs.Calls.{kindOf}
+use Rattle.session_calls.specs.Session.{Standing, Lent, sessionTree, checkOf, Result, refused, ran}
+use Rattle.session_calls.specs.declared.Order.{Order}
 use Rattle.session.specs.declared.Session.{Session}
+use Rattle.session.specs.declared.SessionEnding.{SessionEnding}
+use Rattle.session.specs.declared.SessionNext.{SessionNext}
+use Rattle.session.specs.declared.SessionNext.the-variants as N
 use Rattle.session.specs.declared.Reply.{Reply}
+use Rattle.session.specs.declared.FrameGiven.{FrameGiven}
+use Rattle.session.specs.declared.FrameGiven.the-variants as G
 
 -- the session as it stands between calls; one whose call is still under way is closed
 abbrev pub standing : Session → Standing
-standing s = record { isOpen = isOpen (s .phase); remembered = rememberedOf (s .state .op); frame = s .frame }
+standing s = record { isOpen = isOpen (s .phase); remembered = rememberedOf (s .state .op) }
 
-abbrev pub phaseIn : Kind → Bool → Wire → Phase
-phaseIn kind lost (done m o) = phaseEnded kind lost (succeeds (ended o))
-phaseIn kind lost (ask m c f) = P.Running kind lost
-phaseIn kind lost (tell m c w) = P.Running kind lost
+-- a result as 01's number and value, after so many transport calls
+abbrev pub numbered : CallEnding → ℕ → SessionEnding
+numbered e made = record { number = e .number; value = e .value; made = made }
 
-abbrev pub frameIn : Kind → Wire → List ℕ → List ℕ
-frameIn kind (done m o) frame = leave (frameBy kind) (succeeds (ended o)) (m .words) frame
-frameIn kind (ask m c f) frame = frame
-frameIn kind (tell m c w) frame = frame
+abbrev pub reported : Result → ℕ → SessionEnding
+reported (refused x) made = record { number = refusalNumber x; value = 0; made = made }
+reported (ran e) made = numbered (endingOf e) made
 
--- the reply reports the tree w of a call, and the session s stands at it
-pub record Answers (kind : Kind) (lost : Bool) (before : List ℕ) (w : Wire) (s : Session) (r : Reply) (buf : List ℕ) : Type 0 where
-  pub next : r .next ≡ nextOf w
-  pub bytes : r .bytes ≡ padded (bytesOf w)
-  pub phase : s .phase ≡ phaseIn kind lost w
-  pub memory : memoryOf (rememberedOf (s .state .op)) (s .row) buf ≡ memoryIn w
-  pub frame : s .frame ≡ frameIn kind w before
-  pub tree : w ≡ stateTree (s .state) (s .row) buf
+-- the reply of a call that stands so, after so many transport calls: the ending, or the one that is due and the bytes of it
+abbrev pub nextBy : ℕ → Now → SessionNext
+nextBy made (over e) = N.Finish (reported (ran e) made)
+nextBy made (due c) = N.Make (numbersOf c)
+
+abbrev pub bytesBy : Now → List ℕ
+bytesBy (over e) = []
+bytesBy (due c) = handed c
+
+-- the frame of call 23, with result 0 alone: it stands in the room's first eight words
+abbrev pub frameAt : List ℕ → CallFrame
+frameAt room =
+    let w : ℕ → ℕ = λ i. getD room i 0 in
+    record { r0 = w 0; r1 = w 1; r2 = w 2; r3 = w 3; sp = w 4; lr = w 5; pc = w 6; xpsr = w 7 }
+
+abbrev pub frameGiven : SessionEnding → List ℕ → FrameGiven
+frameGiven e room = cond (eqb (e .number) 0) (G.Frame (frameAt room)) G.Nothing
+
+-- The reply reports the tree w of a call that may make `limit` transport calls, `more` of them still; the session s stands at it, over
+-- what is lent. The list is the one that was given.
+pub record Answers (kind : Kind) (lost : Bool) (limit more : ℕ) (w : Wire) (given : List ℕ) (s : Session) (r : Reply) (l : Lent) : Type 0 where
+  pub next : r .next ≡ nextBy (limit - more) (nowOf more w)
+  pub bytes : r .bytes ≡ padded (bytesBy (nowOf more w))
+  pub phase : s .phase ≡ phaseNow kind lost (nowOf more w)
+  pub budget : s .budget ≡ limit
+  pub left : s .left ≡ more
+  pub memory : memoryOf (rememberedOf (s .state .op)) (l .room) (l .buf) ≡ memoryIn w
+  pub list : l .list ≡ given
+  pub tree : w ≡ stateTree (s .state) (l .room) (l .buf)
   pub counted : CountedIn (statusOf (s .state .call)) (s .state .transfer)
 
--- a result as 01's number and value
-abbrev pub reported : Result → CallEnding
-reported (refused x) = record { number = refusalNumber x; value = 0 }
-reported (ran e) = endingOf e
-
--- nothing is changed, and no transport call is due
-pub record Refused (x : Refusal) (before s : Session) (r : Reply) (buf₀ buf : List ℕ) : Type 0 where
-  pub next : r .next ≡ N.Finish (reported (refused x))
+-- the session stays as it is, so does what is lent, and no transport call is due
+pub record Refused (x : Refusal) (s₀ : Session) (l₀ : Lent) (s : Session) (r : Reply) (l : Lent) : Type 0 where
+  pub next : r .next ≡ N.Finish (reported (refused x) 0)
   pub bytes : r .bytes ≡ padded []
-  pub session : s ≡ before
-  pub lent : buf ≡ buf₀
+  pub session : s ≡ s₀
+  pub lent : l ≡ l₀
 
--- what a start answers: before, call and buffer, then session, reply and buffer afterwards
-abbrev pub StartedBy : Check → Session → SessionCall → List ℕ → Session → Reply → List ℕ → Type 0
-StartedBy (Refuse x) before c buf₀ s r buf = Refused x before s r buf₀ buf
-StartedBy Pass before c buf₀ s r buf = Answers (kindOf c) false (before .frame) (sessionTree (standing before) c buf₀) s r buf
+-- a call that its caller has left is over with the next start, also with one that is refused; nothing else changes by it
+abbrev pub rested : Session → Session
+rested s = record { phase = phaseLeft (s .phase); budget = s .budget; left = s .left; state = s .state }
 
-abbrev pub Started : Session → SessionCall → List ℕ → Session → Reply → List ℕ → Type 0
-Started before c buf₀ s r buf = StartedBy (refusal (isOpen (before .phase)) c (length buf₀)) before c buf₀ s r buf
+-- what a start answers: session, order and what is lent, then session, reply and what was lent afterwards
+abbrev pub StartedBy : Check → Session → Order → Lent → Session → Reply → Lent → Type 0
+StartedBy (Refuse x) s₀ o l₀ s r l = Refused x (rested s₀) l₀ s r l
+StartedBy Pass s₀ o l₀ s r l =
+    Answers (kindOf (o .call)) false (o .budget) (o .budget) (sessionTree (standing s₀) (o .call) l₀) (l₀ .list) s r l
+
+abbrev pub Started : Session → Order → Lent → Session → Reply → Lent → Type 0
+Started s₀ o l₀ s r l = StartedBy (checkOf (standing s₀) (o .call) l₀) s₀ o l₀ s r l
 
 -- whether an answer shows that the transport call due was lost; that of an ignored ABORT shows nothing
 abbrev pub lostBy : Wire → Answer → Bool
 lostBy w a = awaited w && loss a
 
 -- what a step answers; where no call is under way it is refused as NoSession
-abbrev pub SteppedIn : Phase → Session → Answer → List ℕ → Session → Reply → List ℕ → Type 0
-SteppedIn P.Closed before a buf₀ s r buf = Refused R.NoSession before s r buf₀ buf
-SteppedIn P.Open before a buf₀ s r buf = Refused R.NoSession before s r buf₀ buf
-SteppedIn (P.Running kind lost) before a buf₀ s r buf =
-    Answers kind (lost || lostBy (stateTree (before .state) (before .row) buf₀) a) (before .frame)
-    (follow (stateTree (before .state) (before .row) buf₀) a) s r buf
+abbrev pub SteppedIn : Phase → Session → Answer → Lent → Session → Reply → Lent → Type 0
+SteppedIn P.Closed s₀ a l₀ s r l = Refused R.NoSession s₀ l₀ s r l
+SteppedIn P.Open s₀ a l₀ s r l = Refused R.NoSession s₀ l₀ s r l
+SteppedIn (P.Running kind lost) s₀ a l₀ s r l =
+    Answers kind (lost || lostBy (stateTree (s₀ .state) (l₀ .room) (l₀ .buf)) a) (s₀ .budget) (s₀ .left - 1)
+    (follow (stateTree (s₀ .state) (l₀ .room) (l₀ .buf)) a) (l₀ .list) s r l
 
-abbrev pub Stepped : Session → Answer → List ℕ → Session → Reply → List ℕ → Type 0
-Stepped before a buf₀ s r buf = SteppedIn (before .phase) before a buf₀ s r buf
+abbrev pub Stepped : Session → Answer → Lent → Session → Reply → Lent → Type 0
+Stepped s₀ a l₀ s r l = SteppedIn (s₀ .phase) s₀ a l₀ s r l

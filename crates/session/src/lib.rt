@@ -1,45 +1,54 @@
-// The session: the engine's calls that 01 admits, over what is remembered between them.
+// The session: the calls that 01 admits, over what is remembered between them and under a budget each.
 ghost use mathlib.Core.Bool.{false, _||_};
 ghost use mathlib.Core.List.{List};
 ghost use mathlib.Core.Path.{_≡_};
 ghost use Prim.Native.Nat.{ℕ};
-ghost use lib.ListN.{replicate};
-ghost use Rattle.wire.specs.Wire.{Wire, follow};
-ghost use Rattle.engine_calls.specs.Calls.{coreFrame, leave, rowFor};
+ghost use Rattle.wire.specs.Wire.{Wire};
+ghost use Rattle.wire_memap.specs.Laws.Doing.{rememberedOf};
 ghost use Rattle.engine.specs.Laws.State.{stateTree};
 ghost use Rattle.engine.specs.Step.{Steps};
-ghost use Rattle.session_rules.specs.Admits.{engineCall};
-ghost use Rattle.session_rules.specs.Session.{closed, kindBy, kindOf, frameBy, sessionTree};
-ghost use Rattle.session_phase.specs.declared.Phase.the-variants.{Closed};
-ghost use Rattle.session.specs.Step.{standing, lostBy, Answers, Refused, Started, Stepped};
-ghost use Rattle.session.specs.Laws.Ends.{phaseFor, frameAt};
-use call_connect::ConnectCall;
-use call_core::CoreCall;
-use call_memory::MemoryCall;
+ghost use Rattle.session_calls.specs.Session.{closed, lending};
+ghost use Rattle.session_phase.specs.declared.Phase.the-variants.{Closed, Running};
+ghost use Rattle.session_rules.specs.declared.Check.the-variants.{Pass};
+ghost use Rattle.session.specs.Step.{standing, frameAt, frameGiven, lostBy, Answers, Refused, rested, StartedBy, Started, SteppedIn, Stepped};
+ghost use Rattle.session.specs.Laws.Ends.{dueUnder, nextUnder, phaseUnder, bytesUnder};
+use call_core::CallFrame;
 use engine::NextStep;
 use engine::State;
 use engine::StepAnswer;
-use engine_calls::EngineCall;
-use engine_calls::Frame;
+use session_calls::Order;
 use session_phase::Kind;
 use session_phase::Phase;
 use session_rules::Check;
 use session_rules::Refusal;
-use session_rules::SessionCall;
 use wire::Answer;
-use wire_numbers::CallEnding;
+use wire::Remembered;
+use wire_numbers::TransportCall;
 
-// `state` has what is remembered and the call in flight, `row` the words of its runs, `frame` what call 23 left and 24 takes.
+// `budget` and what is left of it are those of the last call; `state` has what is remembered and the call in flight.
 pub struct Session {
     pub phase: Phase,
+    pub budget: u32,
+    pub left: u32,
     pub state: State,
-    pub row: [u32; 64],
-    pub frame: [u32; 8],
 }
 
-// The next transport call or the call's ending, and the bytes of a sequence.
+// How a call ended: 01's number and value, and how many transport calls it made.
+pub struct SessionEnding {
+    pub number: u8,
+    pub value: u32,
+    pub made: u32,
+}
+
+// The transport call to make next, or how the call ended.
+pub enum SessionNext {
+    Make(TransportCall),
+    Finish(SessionEnding),
+}
+
+// What comes next, and the bytes of a sequence.
 pub struct Reply {
-    pub next: NextStep,
+    pub next: SessionNext,
     pub bytes: [u8; 16],
 }
 
@@ -49,53 +58,143 @@ pub struct SessionAnswer {
     pub reply: Reply,
 }
 
-// The engine's call that a session's call is.
-fn engine_call(c: SessionCall) -> EngineCall
-    ensures { λ r. ⌜ r ≡ engineCall c ⌝ }
+// The frame of call 23, to be handed to call 24, or that it gives none.
+pub enum FrameGiven {
+    Frame(CallFrame),
+    Nothing,
+}
+
+// 01's number of a call whose budget did not suffice.
+const SPENT: u8 = 11;
+
+// A transport call is due, or the call is Spent where nothing is left of its budget.
+fn next_due(left: u32, made: u32, c: TransportCall) -> SessionNext
+    ensures { λ r. ⌜ r ≡ dueUnder left made c ⌝ }
 {
-    match c {
-        SessionCall::ConnectSwd => EngineCall::Connect(ConnectCall::ConnectSwd),
-        SessionCall::ReadWord(addr) => EngineCall::Memory(MemoryCall::ReadWord(addr)),
-        SessionCall::WriteWord(addr, word) => EngineCall::Memory(MemoryCall::WriteWord(addr, word)),
-        SessionCall::ReadMem(addr) => EngineCall::Memory(MemoryCall::ReadMem(addr)),
-        SessionCall::WriteMem(addr) => EngineCall::Memory(MemoryCall::WriteMem(addr)),
-        SessionCall::Core(q) => EngineCall::Core(q),
-        SessionCall::Fpb(q) => EngineCall::Fpb(q),
+    if session_phase::is_spent(left) {
+        return SessionNext::Finish(SessionEnding {
+            number: SPENT,
+            value: 0,
+            made: made,
+        });
+    }
+    SessionNext::Make(c)
+}
+
+// What the engine says comes next, under a budget of which so much is left.
+fn next_under(left: u32, made: u32, n: NextStep) -> SessionNext
+    ensures { λ r. ⌜ r ≡ nextUnder left made n ⌝ }
+{
+    match n {
+        NextStep::Make(c) => next_due(left, made, c),
+        NextStep::Finish(e) => SessionNext::Finish(SessionEnding {
+            number: e.number,
+            value: e.value,
+            made: made,
+        }),
     }
 }
 
-// Call 23 alone leaves a frame.
-fn core_kind(c: CoreCall) -> Kind
-    ensures { λ r. ⌜ r ≡ kindBy (coreFrame c) ⌝ }
+fn phase_under(kind: Kind, lost: bool, left: u32, n: NextStep) -> Phase
+    ensures { λ r. ⌜ r ≡ phaseUnder kind lost left n ⌝ }
 {
-    match engine_calls::frame_for(EngineCall::Core(c)) {
-        Frame::Nowhere => Kind::Plain,
-        Frame::Found => Kind::Plain,
-        Frame::Left => Kind::Frame,
+    match n {
+        NextStep::Make(_) => session_phase::phase_due(kind, lost, left),
+        NextStep::Finish(e) => session_phase::phase_ended(kind, lost, e.number == 0),
     }
 }
 
-// What the end of a call needs to know of it.
-fn kind_of(c: SessionCall) -> Kind
-    ensures { λ r. ⌜ r ≡ kindOf c ⌝ }
+// No bytes are handed over with an ending.
+fn bytes_under(left: u32, n: NextStep, bytes: [u8; 16]) -> [u8; 16]
+    ensures { λ r. ⌜ r ≡ bytesUnder left n bytes ⌝ }
 {
-    match c {
-        SessionCall::ConnectSwd => Kind::Connect,
-        SessionCall::ReadWord(_) => Kind::Plain,
-        SessionCall::WriteWord(_, _) => Kind::Plain,
-        SessionCall::ReadMem(_) => Kind::Plain,
-        SessionCall::WriteMem(_) => Kind::Plain,
-        SessionCall::Core(q) => core_kind(q),
-        SessionCall::Fpb(_) => Kind::Plain,
+    match n {
+        NextStep::Make(_) => {
+            if session_phase::is_spent(left) {
+                return [0u8; 16];
+            }
+            bytes
+        }
+        NextStep::Finish(_) => bytes,
     }
 }
 
-// The row that a call runs over: zeros, and for call 24 the frame that 23 left.
-fn row_of(c: EngineCall, frame: [u32; 8]) -> [u32; 64]
-    ensures { λ r. ⌜ r ≡ rowFor c frame ⌝ }
+// The session and its reply after the engine's answer.
+fn settled(kind: Kind, lost: bool, budget: u32, left: u32, x: StepAnswer) -> SessionAnswer
+    ensures { λ r. ⌜ ((w : Wire) (room list buf : List ℕ) → Steps w x room buf
+        → Answers kind lost budget left w list (r .session) (r .reply) (lending room list buf)) ⌝ }
 {
-    let f = engine_calls::frame_for(c);
-    engine_calls::row_for(f, frame)
+    let n = x.next;
+    let state = x.state;
+    let bytes = x.bytes;
+    let made = session_phase::made_of(budget, left);
+    let phase = phase_under(kind, lost, left, n);
+    let next = next_under(left, made, n);
+    let shown = bytes_under(left, n, bytes);
+    SessionAnswer {
+        session: Session {
+            phase: phase,
+            budget: budget,
+            left: left,
+            state: state,
+        },
+        reply: Reply {
+            next: next,
+            bytes: shown,
+        },
+    }
+}
+
+// Nothing is changed.
+fn refused(s: Session, x: Refusal) -> SessionAnswer
+    ensures { λ r. ⌜ ((room list buf : List ℕ) → Refused x s (lending room list buf) (r .session) (r .reply) (lending room list buf)) ⌝ }
+{
+    let e = SessionEnding {
+        number: session_rules::refusal_number(x),
+        value: 0,
+        made: 0,
+    };
+    SessionAnswer {
+        session: s,
+        reply: Reply {
+            next: SessionNext::Finish(e),
+            bytes: [0u8; 16],
+        },
+    }
+}
+
+// A call that its caller has left is over.
+fn rest(s: Session) -> Session
+    ensures { λ r. ⌜ r ≡ rested s ⌝ }
+{
+    let phase = s.phase;
+    let state = s.state;
+    Session {
+        phase: session_phase::phase_left(phase),
+        budget: s.budget,
+        left: s.left,
+        state: state,
+    }
+}
+
+// The start of a call that is not refused.
+fn begun(
+    s: Session,
+    o: Order,
+    room: &mut [u32; 192],
+    list: &mut [u32],
+    buf: &mut [u8],
+) -> SessionAnswer
+    ensures { λ r. ⌜ StartedBy Pass s o (lending (now (room .entry)) (now (list .entry)) (now (buf .entry)))
+        (r .session) (r .reply) (lending (now (room .exit)) (now (list .exit)) (now (buf .exit))) ⌝ }
+{
+    let call = o.call;
+    let facts = session_calls::facts_of(call);
+    let kind = facts.kind;
+    let e = session_calls::engine_call(call);
+    let r = session_phase::remembered_for(kind, engine::remembered(s.state));
+    let x = engine::start(r, e, room, list, buf);
+    settled(kind, false, o.budget, o.budget, x)
 }
 
 // Whether a transport call was lost by now: `lost` tells of those before, the answer of the one that is due.
@@ -106,130 +205,36 @@ fn lost_by(lost: bool, s: State, a: Answer) -> bool
     session_phase::has_lost(lost, awaited, a)
 }
 
-// Call 23 leaves its frame where it succeeds.
-fn frame_ended(kind: Kind, ok: bool, row: [u32; 64], frame: [u32; 8]) -> [u32; 8]
-    ensures { λ r. ⌜ r ≡ leave (frameBy kind) ok row frame ⌝ }
-{
-    match kind {
-        Kind::Connect => frame,
-        Kind::Frame => engine_calls::frame_left(Frame::Left, ok, row, frame),
-        Kind::Plain => frame,
-    }
-}
-
-// A call that has not ended runs on.
-fn phase_at(kind: Kind, lost: bool, next: NextStep) -> Phase
-    ensures { λ r. ⌜ r ≡ phaseFor kind lost next ⌝ }
-{
-    match next {
-        NextStep::Make(_) => Phase::Running {
-            kind: kind,
-            lost: lost,
-        },
-        NextStep::Finish(e) => session_phase::phase_ended(kind, lost, e.number == 0),
-    }
-}
-
-// A frame stays as it was until the call ends.
-fn frame_at(kind: Kind, next: NextStep, row: [u32; 64], frame: [u32; 8]) -> [u32; 8]
-    ensures { λ r. ⌜ r ≡ frameAt kind next row frame ⌝ }
-{
-    match next {
-        NextStep::Make(_) => frame,
-        NextStep::Finish(e) => frame_ended(kind, e.number == 0, row, frame),
-    }
-}
-
-// The session after a step of the engine.
-fn settled(kind: Kind, lost: bool, frame: [u32; 8], row: [u32; 64], x: StepAnswer) -> SessionAnswer
-    ensures { λ r. ⌜ ((w : Wire) (b : List ℕ) → Steps w x row b → Answers kind lost frame w (r .session) (r .reply) b) ⌝ }
-{
-    let next = x.next;
-    let state = x.state;
-    let bytes = x.bytes;
-    let phase = phase_at(kind, lost, next);
-    let left = frame_at(kind, next, row, frame);
-    SessionAnswer {
-        session: Session {
-            phase: phase,
-            state: state,
-            row: row,
-            frame: left,
-        },
-        reply: Reply {
-            next: next,
-            bytes: bytes,
-        },
-    }
-}
-
-// Nothing is changed.
-fn refused(s: Session, x: Refusal) -> SessionAnswer
-    ensures { λ r. ⌜ ((b : List ℕ) → Refused x s (r .session) (r .reply) b b) ⌝ }
-{
-    let e = CallEnding {
-        number: session_rules::refusal_number(x),
-        value: 0,
-    };
-    SessionAnswer {
-        session: s,
-        reply: Reply {
-            next: NextStep::Finish(e),
-            bytes: [0u8; 16],
-        },
-    }
-}
-
-// The start of a call that is not refused. It runs over no words of the caller.
-fn begun(s: Session, c: SessionCall, buf: &mut [u8]) -> SessionAnswer
-    ensures { λ r. ⌜ Answers (kindOf c) false (s .frame) (sessionTree (standing s) c (now (buf .entry)))
-        (r .session) (r .reply) (now (buf .exit)) ⌝ }
-{
-    let frame = s.frame;
-    let e = engine_call(c);
-    let r = session_phase::remembered_for(
-        session_rules::is_connect(c),
-        engine::remembered(s.state),
-    );
-    let mut row = row_of(e, frame);
-    let mut none = [0u32; 0];
-    let x = engine::start(r, e, &mut row, &mut none, buf);
-    let kind = kind_of(c);
-    settled(kind, false, frame, row, x)
-}
-
-// The engine's step over the row; no words of the caller are lent.
-fn step_row(state: State, a: Answer, row: &mut [u32; 64], buf: &mut [u8]) -> StepAnswer
-    ensures { λ x. ⌜ Steps (follow (stateTree state (now (row .entry)) (now (buf .entry))) a) x (now (row .exit)) (now (buf .exit)) ⌝ }
-{
-    let mut none = [0u32; 0];
-    engine::step(engine::over_row(state), a, row, &mut none, buf)
-}
-
-// One step of the call under way.
-fn moved(s: Session, kind: Kind, lost: bool, a: Answer, buf: &mut [u8]) -> SessionAnswer
-    ensures { λ r. ⌜ Answers kind (lost || lostBy (stateTree (s .state) (s .row) (now (buf .entry))) a) (s .frame)
-        (follow (stateTree (s .state) (s .row) (now (buf .entry))) a)
-        (r .session) (r .reply) (now (buf .exit)) ⌝ }
+// One step of the call under way. No call of a session runs over words of the caller.
+fn moved(
+    s: Session,
+    kind: Kind,
+    lost: bool,
+    a: Answer,
+    room: &mut [u32; 192],
+    list: &mut [u32],
+    buf: &mut [u8],
+) -> SessionAnswer
+    ensures { λ r. ⌜ SteppedIn (Running kind lost) s a (lending (now (room .entry)) (now (list .entry)) (now (buf .entry)))
+        (r .session) (r .reply) (lending (now (room .exit)) (now (list .exit)) (now (buf .exit))) ⌝ }
 {
     let state = s.state;
-    let frame = s.frame;
-    let mut row = s.row;
     let by_now = lost_by(lost, state, a);
-    let x = step_row(state, a, &mut row, buf);
-    settled(kind, by_now, frame, row, x)
+    let left = session_phase::left_after(s.left);
+    let x = engine::step(engine::over_row(state), a, room, list, buf);
+    settled(kind, by_now, s.budget, left, x)
 }
 
 // A session that has made no call: closed, and nothing known of the target.
 pub fn fresh() -> Session
-    ensures { λ r. ⌜ (standing r ≡ closed) × (r .phase ≡ Closed) × (r .row ≡ replicate 64 0) ⌝ }
+    ensures { λ r. ⌜ (standing r ≡ closed) × (r .phase ≡ Closed) ⌝ }
 {
     let state = engine::idle(engine::new());
     Session {
         phase: Phase::Closed,
+        budget: 0,
+        left: 0,
         state: state,
-        row: [0u32; 64],
-        frame: [0u32; 8],
     }
 }
 
@@ -241,25 +246,74 @@ pub fn open(s: Session) -> bool
     session_phase::is_open(phase)
 }
 
+// What it remembers of the target.
+pub fn remembered(s: Session) -> Remembered
+    ensures { λ r. ⌜ r ≡ standing s .remembered ⌝ }
+{
+    engine::remembered(s.state)
+}
+
+// The frame in the first eight words of a room.
+fn frame_at(room: &[u32; 192]) -> CallFrame
+    ensures { λ r. ⌜ r ≡ frameAt (now (room .entry)) ⌝ }
+{
+    CallFrame {
+        r0: room[0],
+        r1: room[1],
+        r2: room[2],
+        r3: room[3],
+        sp: room[4],
+        lr: room[5],
+        pc: room[6],
+        xpsr: room[7],
+    }
+}
+
+// Call 23 gives its frame with result 0 alone, in the room that it leaves.
+pub fn frame_given(e: SessionEnding, room: &[u32; 192]) -> FrameGiven
+    ensures { λ r. ⌜ r ≡ frameGiven e (now (room .entry)) ⌝ }
+{
+    if e.number == 0 {
+        return FrameGiven::Frame(frame_at(room));
+    }
+    FrameGiven::Nothing
+}
+
 // The start of a call: its first transport call, or its ending where it makes none.
-pub fn session_start(s: Session, c: SessionCall, buf: &mut [u8]) -> SessionAnswer
-    ensures { λ r. ⌜ Started s c (now (buf .entry)) (r .session) (r .reply) (now (buf .exit)) ⌝ }
+pub fn session_start(
+    s: Session,
+    o: Order,
+    room: &mut [u32; 192],
+    list: &mut [u32],
+    buf: &mut [u8],
+) -> SessionAnswer
+    ensures { λ r. ⌜ Started s o (lending (now (room .entry)) (now (list .entry)) (now (buf .entry)))
+        (r .session) (r .reply) (lending (now (room .exit)) (now (list .exit)) (now (buf .exit))) ⌝ }
 {
     let phase = s.phase;
-    match session_rules::check_call(session_phase::is_open(phase), c, buf.len()) {
-        Check::Refuse(x) => refused(s, x),
-        Check::Pass => begun(s, c, buf),
+    let call = o.call;
+    let facts = session_calls::facts_of(call);
+    match session_rules::check_call(session_phase::is_open(phase), facts, buf.len()) {
+        Check::Refuse(x) => refused(rest(s), x),
+        Check::Pass => begun(s, o, room, list, buf),
     }
 }
 
 // One step: the last answer in, the next transport call or the ending out. Refused where no call is under way.
-pub fn session_step(s: Session, a: Answer, buf: &mut [u8]) -> SessionAnswer
-    ensures { λ r. ⌜ Stepped s a (now (buf .entry)) (r .session) (r .reply) (now (buf .exit)) ⌝ }
+pub fn session_step(
+    s: Session,
+    a: Answer,
+    room: &mut [u32; 192],
+    list: &mut [u32],
+    buf: &mut [u8],
+) -> SessionAnswer
+    ensures { λ r. ⌜ Stepped s a (lending (now (room .entry)) (now (list .entry)) (now (buf .entry)))
+        (r .session) (r .reply) (lending (now (room .exit)) (now (list .exit)) (now (buf .exit))) ⌝ }
 {
     let phase = s.phase;
     match phase {
         Phase::Closed => refused(s, Refusal::NoSession),
         Phase::Open => refused(s, Refusal::NoSession),
-        Phase::Running { kind, lost } => moved(s, kind, lost, a, buf),
+        Phase::Running { kind, lost } => moved(s, kind, lost, a, room, list, buf),
     }
 }

@@ -1,3 +1,4 @@
+pub mod SessionData
 pub mod LookLaw
-pub mod ThinBufLaw
 pub mod ThinLaw
+pub mod ThinLentLaw

@@ -1,3 +1,1 @@
-pub mod Admits
-pub mod Session
-pub mod Laws
+pub mod Refusals

@@ -1,24 +1,27 @@
-// The calls of a session: which of them it admits, and what it knows of each.
+// What a session refuses before any transport call is made: one ordered function over the facts of a call, in numbers.
 ghost use mathlib.Core.Bool.{not};
 ghost use mathlib.Core.Path.{_≡_};
 ghost use Prim.Native.Nat.{_+_};
 ghost use lib.Dec.{leb};
-ghost use Rattle.session_rules.specs.Admits.{isConnect, breakpoint, aligned, ranged, admitted, refusal, refusalNumber};
-use call_core::CoreCall;
-use call_fpb::FpbCall;
+ghost use Rattle.session_rules.specs.Refusals.{admitted, aligned, ranged, refusal, refusalNumber};
+use session_phase::Kind;
 
-// Calls 3, 9, 10, 13, 14, 15 to 25 and 26 to 28.
-pub enum SessionCall {
-    ConnectSwd,
-    ReadWord(u32),
-    WriteWord(u32, u32),
-    ReadMem(u32),
-    WriteMem(u32),
-    Core(CoreCall),
-    Fpb(FpbCall),
+// How the address of a call has to lie: anywhere, at a halfword, at a word.
+pub enum Align {
+    Any,
+    Half,
+    Word,
 }
 
-// Why a session refuses a call, before any transport call is made.
+// What a session knows of a call before it starts. `spans`: the caller's buffer lies from the address on.
+pub struct Facts {
+    pub kind: Kind,
+    pub align: Align,
+    pub addr: u32,
+    pub spans: bool,
+}
+
+// Why a session refuses a call.
 pub enum Refusal {
     NoSession,
     Align,
@@ -42,54 +45,27 @@ pub fn refusal_number(x: Refusal) -> u8
     }
 }
 
-// A connect decides by itself whether the session is open.
-pub fn is_connect(c: SessionCall) -> bool
-    ensures { λ r. ⌜ r ≡ isConnect c ⌝ }
-{
-    match c {
-        SessionCall::ConnectSwd => true,
-        SessionCall::ReadWord(_) => false,
-        SessionCall::WriteWord(_, _) => false,
-        SessionCall::ReadMem(_) => false,
-        SessionCall::WriteMem(_) => false,
-        SessionCall::Core(_) => false,
-        SessionCall::Fpb(_) => false,
-    }
-}
-
 // A closed session admits a connect alone.
-fn is_admitted(now_open: bool, c: SessionCall) -> bool
-    ensures { λ r. ⌜ r ≡ admitted now_open c ⌝ }
+fn is_admitted(now_open: bool, kind: Kind) -> bool
+    ensures { λ r. ⌜ r ≡ admitted now_open kind ⌝ }
 {
     if now_open {
         return true;
     }
-    is_connect(c)
-}
-
-// Where a breakpoint is set, cleared or asked for.
-fn breakpoint_of(c: FpbCall) -> u32
-    ensures { λ r. ⌜ r ≡ breakpoint c ⌝ }
-{
-    match c {
-        FpbCall::HwBreakpointSet(addr) => addr,
-        FpbCall::HwBreakpointClear(addr) => addr,
-        FpbCall::HwBreakpointAt(addr) => addr,
+    match kind {
+        Kind::Connect => true,
+        Kind::Plain => false,
     }
 }
 
-// Calls 9 and 10 want a multiple of 4, calls 26 to 28 an even address.
-fn is_aligned(c: SessionCall) -> bool
-    ensures { λ r. ⌜ r ≡ aligned c ⌝ }
+// Whether an address lies as it has to.
+fn is_aligned(align: Align, addr: u32) -> bool
+    ensures { λ r. ⌜ r ≡ aligned align addr ⌝ }
 {
-    match c {
-        SessionCall::ConnectSwd => true,
-        SessionCall::ReadWord(addr) => addr % 4 == 0,
-        SessionCall::WriteWord(addr, _) => addr % 4 == 0,
-        SessionCall::ReadMem(_) => true,
-        SessionCall::WriteMem(_) => true,
-        SessionCall::Core(_) => true,
-        SessionCall::Fpb(q) => breakpoint_of(q) % 2 == 0,
+    match align {
+        Align::Any => true,
+        Align::Half => addr % 2 == 0,
+        Align::Word => addr % 4 == 0,
     }
 }
 
@@ -109,32 +85,29 @@ fn ends_below(addr: u32, bytes: usize) -> bool
     true
 }
 
-// Calls 13 and 14 end below 2^32.
-fn is_ranged(c: SessionCall, bytes: usize) -> bool
-    ensures { λ r. ⌜ r ≡ ranged c bytes ⌝ }
+// A buffer that lies from an address on ends below 2^32.
+fn is_ranged(spans: bool, addr: u32, bytes: usize) -> bool
+    ensures { λ r. ⌜ r ≡ ranged spans addr bytes ⌝ }
 {
-    match c {
-        SessionCall::ConnectSwd => true,
-        SessionCall::ReadWord(_) => true,
-        SessionCall::WriteWord(_, _) => true,
-        SessionCall::ReadMem(addr) => ends_below(addr, bytes),
-        SessionCall::WriteMem(addr) => ends_below(addr, bytes),
-        SessionCall::Core(_) => true,
-        SessionCall::Fpb(_) => true,
+    if spans {
+        return ends_below(addr, bytes);
     }
+    true
 }
 
-// The checks in 01's order: 10, 9, 8.
-pub fn check_call(now_open: bool, c: SessionCall, bytes: usize) -> Check
-    ensures { λ r. ⌜ r ≡ refusal now_open c bytes ⌝ }
+// The checks in 01's order: 10, 9, 8. `bytes`: as many as the caller's buffer has.
+pub fn check_call(now_open: bool, f: Facts, bytes: usize) -> Check
+    ensures { λ r. ⌜ r ≡ refusal now_open f bytes ⌝ }
 {
-    if !is_admitted(now_open, c) {
+    let kind = f.kind;
+    let align = f.align;
+    if !is_admitted(now_open, kind) {
         return Check::Refuse(Refusal::NoSession);
     }
-    if !is_aligned(c) {
+    if !is_aligned(align, f.addr) {
         return Check::Refuse(Refusal::Align);
     }
-    if !is_ranged(c, bytes) {
+    if !is_ranged(f.spans, f.addr, bytes) {
         return Check::Refuse(Refusal::Range);
     }
     Check::Pass

@@ -3,12 +3,11 @@
 // It prints how many calls of each kind ended with each result, how many failed half done, and how many checks failed, as the text of
 // standard input with a number for each #.
 ghost use Prim.Native.Nat.{_≤_};
-use engine::NextStep;
 use session::Reply;
 use session::Session;
 use session::SessionAnswer;
-use session_items::Listed;
-use session_rules::SessionCall;
+use session::SessionEnding;
+use session::SessionNext;
 use target::Delivered;
 use target::Target;
 use test_soak::Asked;
@@ -17,7 +16,6 @@ use test_soak::WRITE;
 use wire::Answer;
 use wire::Call;
 use wire::Remembered;
-use wire_numbers::CallEnding;
 use wire_numbers::TransportCall;
 
 const LISTS: u32 = 100000;
@@ -39,7 +37,7 @@ pub struct World {
 
 // What the session says: the next transport call or the ending, whether it is open, what it remembers.
 pub struct Said {
-    pub next: NextStep,
+    pub next: SessionNext,
     pub open: bool,
     pub remembered: Remembered,
 }
@@ -106,51 +104,52 @@ fn made(w: World, c: TransportCall, mem: &mut [u8]) -> World {
     told(w, act, c.kind == 0x54, d)
 }
 
-// The transport call that is due goes over the line, if one may be made.
-fn sent(w: World, x: Said, may: u32, mem: &mut [u8]) -> World {
-    if may == 0 {
-        return w;
-    }
+// The transport call that is due goes over the line.
+fn sent(w: World, x: Said, mem: &mut [u8]) -> World {
     let next = x.next;
     match next {
-        NextStep::Make(c) => made(w, c, mem),
-        NextStep::Finish(_) => w,
+        SessionNext::Make(c) => made(w, c, mem),
+        SessionNext::Finish(_) => w,
     }
 }
 
-// How many of `n` transport calls may be made: none where none is due.
-fn allowed(x: Said, n: u32) -> u32
+// How many of `n` turns are left: none where the call has ended.
+fn turns_left(x: Said, n: u32) -> u32
     ensures { λ k. ⌜ k ≤ n ⌝ }
 {
     let next = x.next;
     match next {
-        NextStep::Make(_) => n,
-        NextStep::Finish(_) => 0,
+        SessionNext::Make(_) => n,
+        SessionNext::Finish(_) => 0,
     }
 }
 
-// A call whose budget ends before it does is Spent.
-fn ending_of(x: Said) -> CallEnding {
+// No result has this number: a call that has not ended after as many turns as its budget has, and one more.
+const ENDLESS: u8 = 255;
+
+fn ending_of(x: Said) -> SessionEnding {
     let n = x.next;
     match n {
-        NextStep::Make(_) => CallEnding {
-            number: 11,
+        SessionNext::Make(_) => SessionEnding {
+            number: ENDLESS,
             value: 0,
+            made: 0,
         },
-        NextStep::Finish(e) => e,
+        SessionNext::Finish(e) => e,
     }
 }
 
 // A fresh session, which has nothing due.
 fn idle() -> SessionAnswer {
-    let none = CallEnding {
+    let none = SessionEnding {
         number: 0,
         value: 0,
+        made: 0,
     };
     SessionAnswer {
         session: session::fresh(),
         reply: Reply {
-            next: NextStep::Finish(none),
+            next: SessionNext::Finish(none),
             bytes: [0u8; 16],
         },
     }
@@ -160,36 +159,35 @@ fn what_said(now: SessionAnswer) -> Said {
     let s = now.session;
     let reply = now.reply;
     let next = reply.next;
-    let state = s.state;
-    let remembered = engine::remembered(state);
     Said {
         next: next,
         open: session::open(s),
-        remembered: remembered,
+        remembered: session::remembered(s),
     }
 }
 
-// The call that is asked for; a number that is none of a session's is not drawn.
-fn session_call(a: Asked) -> SessionCall {
-    match session_items::call_at(
-        &[
-            a.number,
-            a.turns,
-            a.len,
-            a.addr,
-            a.word,
-            0,
-            0,
-            0,
-            0,
-            0,
-            a.addr,
-        ],
-        0,
-    ) {
-        Listed::Call(c) => c,
-        Listed::Nothing => SessionCall::ConnectSwd,
+// A word in a record, its highest byte first.
+fn put_word(r: &mut [u8; 42], at: usize, w: u32)
+    requires { ⌜ at ≤ 38 ⌝ }
+{
+    r[at] = (w / 0x1000000 % 256) as u8;
+    r[at + 1] = (w / 0x10000 % 256) as u8;
+    r[at + 2] = (w / 0x100 % 256) as u8;
+    r[at + 3] = (w % 256) as u8;
+}
+
+// The record of the call that is asked for, as a list of calls has it (docs/LISTS.md): the address is also its register, code and polls.
+fn record_of(a: Asked) -> [u8; 42] {
+    let mut r = [0u8; 42];
+    r[1] = (a.number % 256) as u8;
+    put_word(&mut r, 6, a.addr);
+    put_word(&mut r, 10, a.word);
+    put_word(&mut r, 34, a.addr);
+    put_word(&mut r, 38, a.addr);
+    if (20 <= a.number) & (a.number <= 22) {
+        r[6] = (a.addr % 256) as u8;
     }
+    r
 }
 
 fn fitting(len: u32, all: usize) -> usize
@@ -201,16 +199,26 @@ fn fitting(len: u32, all: usize) -> usize
     all
 }
 
-// A call's start, over the first bytes of the buffer.
-fn started(s: Session, a: Asked, buf: &mut [u8]) -> SessionAnswer {
+// A call's start, over the first bytes of the buffer. One turn is the start; its budget is as many as the others.
+fn started(s: Session, a: Asked, room: &mut [u32; 192], buf: &mut [u8]) -> SessionAnswer {
     let n = fitting(a.len, buf.len());
-    session::session_start(s, session_call(a), &mut buf[..n])
+    let r = record_of(a);
+    let order = list_call::order_of(&r, std::num::wrapping_sub_u32(a.turns, 1));
+    let mut none = [0u32; 0];
+    session::session_start(s, order, room, &mut none, &mut buf[..n])
 }
 
 // Its step with the last answer, over the same.
-fn stepped(s: Session, len: u32, answer: Answer, buf: &mut [u8]) -> SessionAnswer {
+fn stepped(
+    s: Session,
+    len: u32,
+    answer: Answer,
+    room: &mut [u32; 192],
+    buf: &mut [u8],
+) -> SessionAnswer {
     let n = fitting(len, buf.len());
-    session::session_step(s, answer, &mut buf[..n])
+    let mut none = [0u32; 0];
+    session::session_step(s, answer, room, &mut none, &mut buf[..n])
 }
 
 fn moved(
@@ -218,21 +226,23 @@ fn moved(
     begin: bool,
     a: Asked,
     answer: Answer,
+    room: &mut [u32; 192],
     buf: &mut [u8],
 ) -> SessionAnswer {
     let s = now.session;
     if begin {
-        return started(s, a, buf);
+        return started(s, a, room, buf);
     }
-    stepped(s, a.len, answer, buf)
+    stepped(s, a.len, answer, room, buf)
 }
 
-// The checks after a call. Whether the session has to be open now.
+// The checks after a call, which made so many transport calls. Whether the session has to be open now.
 fn checked(
     w: World,
     x: Said,
     a: Asked,
     was: bool,
+    made: u64,
     before: &[u8; 1152],
     after: &[u8; 1152],
     given: &[u8; 32],
@@ -248,7 +258,8 @@ fn checked(
     let bytes = test_soak::bytes_of(a.number, e.value, a.word, *buf);
     let kept = (CONNECT <= kind)
         | test_soak::memory_kept(kind == WRITE, ok, from, a.len, before, after, &bytes);
-    let good = kept & (x.open == due) & (!due | test_soak::agrees(x.remembered, t));
+    let counted = (e.made as u64 == made) & (e.number != ENDLESS) & (e.made < a.turns);
+    let good = kept & counted & (x.open == due) & (!due | test_soak::agrees(x.remembered, t));
     test_soak::counted(
         kind,
         e.number,
@@ -291,6 +302,7 @@ fn list_of(random: u32, seen: &mut [u64; 62], mem: &mut [u8; 1152]) -> u32 {
     let mut w = some_world(random);
     let mut now = idle();
     let mut open = false;
+    let mut room = [0u32; 192];
     let mut left = test_soak::nth(random, 15) % 12;
     while 0 < left {
         left -= 1;
@@ -300,14 +312,27 @@ fn list_of(random: u32, seen: &mut [u64; 62], mem: &mut [u8; 1152]) -> u32 {
         let mut buf = given;
         let mut may = a.turns;
         w = begun(w, a.random);
+        let first = w.made;
         while 0 < may {
             let answer = w.answer;
-            now = moved(now, may == a.turns, a, answer, &mut buf);
+            now = moved(now, may == a.turns, a, answer, &mut room, &mut buf);
             let x = what_said(now);
-            may = allowed(x, may - 1);
-            w = sent(w, x, may, mem);
+            may = turns_left(x, may - 1);
+            w = sent(w, x, mem);
         }
-        open = checked(w, what_said(now), a, open, &before, mem, &given, &buf, seen);
+        let made = std::num::wrapping_sub_u64(w.made, first);
+        open = checked(
+            w,
+            what_said(now),
+            a,
+            open,
+            made,
+            &before,
+            mem,
+            &given,
+            &buf,
+            seen,
+        );
     }
     test_soak::listed(w.target.width, w.made, w.losses, seen);
     w.random

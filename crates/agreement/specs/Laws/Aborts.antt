@@ -39,7 +39,7 @@ use Rattle.wire_memap.specs.Ops.{perform}
 use Rattle.wire_memap.specs.declared.Op.{Op}
 use Rattle.wire_memap.specs.declared.Op.the-variants as O
 use Rattle.session_phase.specs.Phase.{loss}
-use Rattle.session_rules.specs.Session.{lostIn}
+use Rattle.session_calls.specs.Session.{lostIn}
 use Rattle.agreement.specs.Demand3.{isTransfer, aborts, lossAmong}
 
 -- `due`: the next transport call is an ignored ABORT

@@ -10,7 +10,7 @@ use lib.ListN.{length, getD}
 use borrow.Author.Tests.{le-leb, lt-leb, lt-ltb, le-ltb, leb-true}
 use Rattle.target.specs.declared.Byte.{Byte}
 use Rattle.target.specs.declared.Byte.the-variants.{Value, Absent}
-use Rattle.session_items.specs.History.{Made}
+use Rattle.agreement.specs.History.{Made}
 use Rattle.agreement.specs.Demand3.{byte, among, renewed, OldOrNew, old, renew}
 use Rattle.agreement.specs.Laws.Progress.{Progress}
 

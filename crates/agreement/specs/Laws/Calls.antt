@@ -1,8 +1,8 @@
--- The jobs of every session call are sound. Serves the proofs only.
+-- The plans of every session call are sound. Serves the proofs only.
 use Prim.Native.Nat.{ℕ, zero, suc, _+_, _-_, _*_, _/_, _%_, min}
 use mathlib.Core.Bool.{Bool, true, false}
 use lib.Dec.{eqb, leb}
-use lib.ListN.{getD}
+use lib.ListN.{length, getD}
 use Rattle.wire.specs.declared.ArmError.{ArmError}
 use Rattle.wire.specs.declared.ArmError.the-variants as E
 use Rattle.wire.specs.declared.Outcome.{Outcome}
@@ -14,7 +14,7 @@ use Rattle.call_memory.specs.Memory.{memoryJob, turns, turn, moved, whole, move
 use Rattle.call_core.specs.Cortex.{R0, S-REGRDY, S-HALT, stands}
 use Rattle.call_core.specs.Core.{POLLS, waitStatus, readCoreReg, storeCoreReg}
 use Rattle.call_core.specs.Function.{coreJob, ENTRIES, NOT-FOUND, readEntry, lookFrom, clobbered, saveRegs, writeRegs, writeRowReg}
-use Rattle.call_core.specs.Function.{lookRunning, startFunction, afterWait, finishFunction}
+use Rattle.call_core.specs.Function.{lookRunning, startFunction, afterWait, finishing}
 use Rattle.call_core.specs.declared.Function.{Function}
 use Rattle.call_core.specs.declared.CoreCall.{CoreCall}
 use Rattle.call_core.specs.declared.CoreCall.the-variants as K
@@ -26,10 +26,11 @@ use Rattle.call_places.specs.declared.Free.the-variants as F
 use Rattle.call_fpb.specs.declared.FpbCall.{FpbCall}
 use Rattle.call_fpb.specs.declared.FpbCall.the-variants as B
 use Rattle.engine_calls.specs.Calls.{jobOf}
-use Rattle.session_rules.specs.Admits.{engineCall}
-use Rattle.session_rules.specs.declared.SessionCall.{SessionCall}
-use Rattle.session_rules.specs.declared.SessionCall.the-variants as S
-use Rattle.agreement.specs.Laws.Sound.{any, Sound, sound-attempt, sound-bind, sound-cond}
+use Rattle.session_calls.specs.Calls.{engineCall}
+use Rattle.session_calls.specs.Session.{Lent, planOf}
+use Rattle.session_calls.specs.declared.SessionCall.{SessionCall}
+use Rattle.session_calls.specs.declared.SessionCall.the-variants as S
+use Rattle.agreement.specs.Laws.Sound.{any, Sound, Sounds, sound-attempt, sound-bind, sound-cond}
 
 -- an operation whose error ends the call
 step : {A : ℕ → Type 0} → ((v : ℕ) → A v) → Unit {0} × ((v : ℕ) → A v) × ((e : ArmError) → Unit {0})
@@ -132,7 +133,7 @@ after-wait-sound waited =
     step λ _. step λ _. sound-bind (ends waited) _ tt
     (λ _. sound-bind (readCoreReg R0) _ (read-reg-sound R0) (λ result. sound-bind (writeRegs 0 8) (λ _. return result) (regs-sound 0 8) (λ _. tt)))
 
-finish-sound : (polls : ℕ) → Sound (finishFunction polls) any
+finish-sound : (polls : ℕ) → Sound (finishing polls) any
 finish-sound polls = sound-attempt (waitStatus S-HALT polls) afterWait any (wait-sound S-HALT polls) after-wait-sound
 
 core-sound : (c : CoreCall) → Sound (coreJob c) any
@@ -146,8 +147,8 @@ core-sound (K.ReadCoreReg reg) = read-reg-sound reg
 core-sound (K.WriteCoreReg reg value) = step λ _. store-reg-sound reg
 core-sound (K.RomFuncLookup first second) = step λ ptrs. look-sound _ (ptrs % 0x10000) ENTRIES
 core-sound (K.StartFunction f) = start-sound f
-core-sound (K.FinishFunction polls) = finish-sound polls
-core-sound (K.CallFunction f polls) = sound-bind (startFunction f) (λ _. finishFunction polls) (start-sound f) (λ _. finish-sound polls)
+core-sound (K.FinishFunction frame polls) = (tt, finish-sound polls)
+core-sound (K.CallFunction f polls) = sound-bind (startFunction f) (λ _. finishing polls) (start-sound f) (λ _. finish-sound polls)
 
 -- Calls 26 to 28
 take-sound : (value : ℕ) (free : Free) → Sound (takeFree value free) any
@@ -184,12 +185,19 @@ fpb-sound (B.HwBreakpointSet addr) =
 fpb-sound (B.HwBreakpointClear addr) = up-sound clear (λ i. step λ _. tt) addr
 fpb-sound (B.HwBreakpointAt addr) = up-sound (λ _. yes) (λ i. tt) addr
 
-pub call-sound : (c : SessionCall) (bytes : ℕ) → Sound (jobOf (engineCall c) 0 bytes) any
+call-sound : (c : SessionCall) (words bytes : ℕ) → Sound (jobOf (engineCall c) words bytes) any
 unfolding Sound memoryJob
-call-sound S.ConnectSwd bytes = connect-sound
-call-sound (S.ReadWord addr) bytes = step λ _. tt
-call-sound (S.WriteWord addr word) bytes = step λ _. tt
-call-sound (S.ReadMem addr) bytes = sound-cond (leb 0x100000000 (addr + bytes)) (fail E.Range) _ tt (mem-sound bytes true (addr + bytes) bytes bytes)
-call-sound (S.WriteMem addr) bytes = sound-cond (leb 0x100000000 (addr + bytes)) (fail E.Range) _ tt (mem-sound bytes false (addr + bytes) bytes bytes)
-call-sound (S.Core c) bytes = core-sound c
-call-sound (S.Fpb c) bytes = fpb-sound c
+call-sound S.ConnectSwd words bytes = connect-sound
+call-sound (S.ReadWord addr) words bytes = step λ _. tt
+call-sound (S.WriteWord addr word) words bytes = step λ _. tt
+call-sound (S.ReadMem addr) words bytes =
+    sound-cond (leb 0x100000000 (addr + bytes)) (fail E.Range) _ tt (mem-sound bytes true (addr + bytes) bytes bytes)
+call-sound (S.WriteMem addr) words bytes =
+    sound-cond (leb 0x100000000 (addr + bytes)) (fail E.Range) _ tt (mem-sound bytes false (addr + bytes) bytes bytes)
+call-sound (S.Core c) words bytes = core-sound c
+call-sound (S.Fpb c) words bytes = fpb-sound c
+
+-- each is one job
+pub plan-sound : (c : SessionCall) (l : Lent) → Sounds (planOf c l)
+unfolding Sounds
+plan-sound c l = (call-sound c (length (l .list)) (length (l .buf)), λ _ _ _. tt)

@@ -215,6 +215,7 @@ keeps-on (C.LoadWords at n) s h p = (agreed-with refl (p .0), p .1)
 keeps-on (C.Patch at skip count word) s h p = (agreed-with refl (p .0), p .1)
 keeps-on (C.Put at word) s h p = (agreed-with refl (p .0), p .1)
 keeps-on (C.Registers r0 r1 r2 r3 sp lr pc) s h p = (agreed-with refl (p .0), p .1)
+keeps-on (C.Frame r0 r1 r2 r3 sp lr pc xpsr) s h p = (agreed-with refl (p .0), p .1)
 
 -- the induction
 job-at : (j : Job) (s : Stage) → Sound j s → (m : Memory) (t : Target) (mem : List ℕ) (b : Bool) → At s b m t mem

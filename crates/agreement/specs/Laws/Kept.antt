@@ -5,10 +5,11 @@ use mathlib.Core.Bool.{Bool, true, false}
 use mathlib.Core.Path.{_≡_, refl}
 use native.Mathlib.Omega.{arith}
 use Rattle.target.specs.WellFormed.{WellFormed}
-use Rattle.session_rules.specs.Admits.{isConnect, refusal}
-use Rattle.session_rules.specs.declared.SessionCall.{SessionCall}
 use Rattle.session_rules.specs.declared.Check.the-variants.{Pass}
-use Rattle.session_items.specs.History.{Moment}
+use Rattle.session_calls.specs.Calls.{isConnect}
+use Rattle.session_calls.specs.Session.{Standing, Lent, checkOf}
+use Rattle.session_calls.specs.declared.SessionCall.{SessionCall}
+use Rattle.agreement.specs.History.{Moment}
 use Rattle.agreement.specs.Demand3.{Agree}
 
 pub record Kept (x : Moment) : Type 0 where
@@ -17,6 +18,9 @@ pub record Kept (x : Moment) : Type 0 where
   pub agree : x .standing .isOpen ≡ true → Agree (x .standing .remembered) (x .target)
 
 -- a closed session admits a connect only
-pub admitted-open : (was : Bool) (c : SessionCall) (bytes : ℕ) → refusal was c bytes ≡ Pass → isConnect c ≡ false → was ≡ true
-admitted-open true c bytes h e = refl
-admitted-open false c bytes h e = let z : _≡_ {A = ℕ} 0 1 = cc in absurd (omega arith)
+pub admitted-open : (s : Standing) (c : SessionCall) (l : Lent) → checkOf s c l ≡ Pass → isConnect c ≡ false → s .isOpen ≡ true
+admitted-open s c l h e = go (s .isOpen) h
+  where
+    go : (was : Bool) → checkOf (record { isOpen = was; remembered = s .remembered }) c l ≡ Pass → was ≡ true
+    go true h = refl
+    go false h = let z : _≡_ {A = ℕ} 0 1 = cc in absurd (omega arith)

@@ -6,7 +6,7 @@ use mathlib.Core.Path.{_≡_, refl, sym, _∙_, subst}
 use mathlib.Core.List.{List, []}
 use native.Mathlib.Omega.{arith}
 use lib.Dec.{leb}
-use lib.ListN.{length, getD, replicate, length-replicate}
+use lib.ListN.{length, getD}
 use borrow.Author.Tests.{eqb-true, not-true}
 use Rattle.wire.specs.Bytes.{leBytes}
 use Rattle.wire.specs.Wire.{Wire, Memory, memoryOf, play, Ending, ended, spent, succeeds}
@@ -16,16 +16,20 @@ use Rattle.call.specs.Job.{Job, exec}
 use Rattle.target.specs.declared.Target.{Target}
 use Rattle.target.specs.declared.Byte.the-variants as B
 use Rattle.target.specs.declared.Act.{Act}
-use Rattle.session_rules.specs.Admits.{unless, admitted, aligned, ranged, isConnect, refusal}
-use Rattle.session_rules.specs.Session.{ran, succeeded, sessionTree, lostIn}
-use Rattle.session_rules.specs.declared.SessionCall.{SessionCall}
-use Rattle.session_rules.specs.declared.SessionCall.the-variants as S
+use Rattle.session_rules.specs.Refusals.{unless, admitted, aligned, ranged}
 use Rattle.session_rules.specs.declared.Refusal.{Refusal}
 use Rattle.session_rules.specs.declared.Refusal.the-variants as R
 use Rattle.session_rules.specs.declared.Check.{Check}
 use Rattle.session_rules.specs.declared.Check.the-variants.{Pass, Refuse}
-use Rattle.session_items.specs.History.{Item, Moment, Made, madeIf, made}
-use Rattle.agreement.specs.Demand3.{Bytes, Reads, Writes, old, valueBytes, MemoryKept}
+use Rattle.session_rules.specs.declared.Facts.{Facts}
+use Rattle.session_calls.specs.Calls.{factsOf, isConnect}
+use Rattle.session_calls.specs.Session.{ROOM, Lent, ran, succeeded, checkOf, sessionTree, lostIn}
+use Rattle.session_calls.specs.Plan.{alone, planTree}
+use Rattle.session_calls.specs.Laws.Plan.{alone-tree}
+use Rattle.session_calls.specs.declared.SessionCall.{SessionCall}
+use Rattle.session_calls.specs.declared.SessionCall.the-variants as S
+use Rattle.agreement.specs.History.{Item, Moment, Made, madeIf, made}
+use Rattle.agreement.specs.Demand3.{Bytes, Typed, Reads, Writes, old, valueBytes, MemoryKept}
 use Rattle.agreement.specs.Laws.Kept.{Kept}
 use Rattle.agreement.specs.Laws.Safe.{Post, Stand, Safe, Holds, lives}
 use Rattle.agreement.specs.Laws.Progress.{Progress, progress-none}
@@ -54,14 +58,14 @@ passed true true false h = never-passes R.Range h
 passed true false c h = never-passes R.Align h
 passed false b c h = never-passes R.NoSession h
 
-opened : (isOpen : Bool) (c : SessionCall) → isConnect c ≡ false → admitted isOpen c ≡ true → isOpen ≡ true
+opened : (isOpen : Bool) (c : SessionCall) → isConnect c ≡ false → admitted isOpen (factsOf c .kind) ≡ true → isOpen ≡ true
 opened true c n h = refl
 opened false c n h = absurd (true≢false (sym h ∙ n))
 
--- the row and the buffer that a memory call begins with
-begins : (x : Moment) → Kept x → x .standing .isOpen ≡ true → (b : List ℕ)
-    → Idle (x .target .base) (memoryOf (x .standing .remembered) (replicate 64 0) b) (x .target)
-begins x k o b = record { port = k .port; agree = k .agree o; size = length-replicate {A = ℕ} 64 0; width = k .formed .width .0; start = refl }
+-- the room and the buffer that a memory call begins with
+begins : (x : Moment) → Kept x → x .standing .isOpen ≡ true → (room b : List ℕ) → length room ≡ ROOM
+    → Idle (x .target .base) (memoryOf (x .standing .remembered) room b) (x .target)
+begins x k o room b z = record { port = k .port; agree = k .agree o; size = z; width = k .formed .width .0; start = refl }
 
 -- What the end of a call says, whatever it is.
 module _ (base : ℕ) (mem₀ : List ℕ) (addr : ℕ) (m : Memory) (t : Target) (mem : List ℕ) (b : Bool) where
@@ -112,12 +116,12 @@ module _ (d : Made) (addr : ℕ) (m : Memory) (b : Bool) where
   }
 
 -- A call that was not refused, over its line.
-module _ (x : Moment) (n : ℕ) (buf : List ℕ) (acts : List Act) (c : SessionCall) (addr : ℕ) where
+module _ (x : Moment) (n : ℕ) (l : Lent) (acts : List Act) (c : SessionCall) (addr : ℕ) where
   abbrev over : Made
-  over = madeIf Pass x (record { call = c; budget = n; buf = buf }) acts
+  over = madeIf Pass x (record { call = c; budget = n; lent = l }) acts
 
   abbrev tree : Wire
-  tree = sessionTree (x .standing) c buf
+  tree = sessionTree (x .standing) c l
 
   abbrev base : ℕ
   base = x .target .base
@@ -142,9 +146,9 @@ module _ (x : Moment) (n : ℕ) (buf : List ℕ) (acts : List Act) (c : SessionC
       reads over addr memory lost 4 (valueBytes (over .came .ending))
       (word-off base (x .mem) addr memory (over .after .target) (over .after .mem) lost bytes ending (lived _ _ h))
 
-  over-mem : (len : ℕ) → Lives (ReadEnds base (x .mem) addr len) (ReadSpent base (x .mem)) → Reads over addr len (over .came .buf)
+  over-mem : (len : ℕ) → Lives (ReadEnds base (x .mem) addr len) (ReadSpent base (x .mem)) → Reads over addr len (over .came .lent .buf)
   over-mem len h =
-      reads over addr memory lost len (over .came .buf)
+      reads over addr memory lost len (over .came .lent .buf)
       (mem-off base (x .mem) addr memory (over .after .target) (over .after .mem) lost len ending (lived _ _ h))
 
   over-write : (new : List ℕ) → Lives (WriteEnds base (x .mem) addr new) (WriteSpent base (x .mem) addr new) → Writes over addr new
@@ -153,30 +157,47 @@ module _ (x : Moment) (n : ℕ) (buf : List ℕ) (acts : List Act) (c : SessionC
       (write-off base (x .mem) addr memory (over .after .target) (over .after .mem) lost new ending (lived _ _ h))
 
 -- Each call that passes its checks. The session was open, so that the call begins with agreement.
-module _ (x : Moment) (k : Kept x) (n : ℕ) (buf : List ℕ) (bytes : Bytes buf) (acts : List Act) where
+module _ (x : Moment) (k : Kept x) (n : ℕ) (l : Lent) (typed : Typed l) (acts : List Act) where
   abbrev item : SessionCall → Item
-  item c = record { call = c; budget = n; buf = buf }
+  item c = record { call = c; budget = n; lent = l }
+
+  abbrev buf : List ℕ
+  buf = l .buf
 
   abbrev start : Memory
-  start = memoryOf (x .standing .remembered) (replicate 64 0) buf
+  start = memoryOf (x .standing .remembered) (l .room) buf
 
   abbrev Passes : SessionCall → Type 0
-  Passes c = refusal (x .standing .isOpen) c (length buf) ≡ Pass
+  Passes c = checkOf (x .standing) c l ≡ Pass
 
   -- refused, or not
   either : (c : SessionCall) (P : Made → Type 0) → ((r : Refusal) → P (madeIf (Refuse r) x (item c) acts))
       → (Passes c → P (madeIf Pass x (item c) acts)) → P (made x (item c) acts)
-  either c P f g = go (refusal (x .standing .isOpen) c (length buf)) refl
+  either c P f g = go (checkOf (x .standing) c l) refl
     where
-      go : (k : Check) → refusal (x .standing .isOpen) c (length buf) ≡ k → P (madeIf k x (item c) acts)
+      go : (k : Check) → checkOf (x .standing) c l ≡ k → P (madeIf k x (item c) acts)
       go (Refuse r) h = f r
       go Pass h = g h
 
-  checks : (c : SessionCall) → Passes c → (admitted (x .standing .isOpen) c ≡ true) × (aligned c ≡ true) × (ranged c (length buf) ≡ true)
-  checks c h = passed (admitted (x .standing .isOpen) c) (aligned c) (ranged c (length buf)) h
+  -- what the facts of the call say then
+  record Checked (f : Facts) : Type 0 where
+    open′ : admitted (x .standing .isOpen) (f .kind) ≡ true
+    even : aligned (f .align) (f .addr) ≡ true
+    below : ranged (f .spans) (f .addr) (length buf) ≡ true
+
+  checks : (c : SessionCall) → Passes c → Checked (factsOf c)
+  checks c h =
+      let f = factsOf c in
+      let p = passed (admitted (x .standing .isOpen) (f .kind)) (aligned (f .align) (f .addr)) (ranged (f .spans) (f .addr) (length buf)) h in
+      record { open′ = p .0; even = p .1; below = p .2 }
 
   idle : (c : SessionCall) → isConnect c ≡ false → Passes c → Idle (x .target .base) start (x .target)
-  idle c q h = begins x k (opened (x .standing .isOpen) c q (checks c h .0)) buf
+  idle c q h = begins x k (opened (x .standing .isOpen) c q (checks c h .open′)) (l .room) buf (typed .room)
+
+  -- the tree of a plan of one job
+  alone-safe : (Q : Post) (S : Stand) (j : Job) → Safe Q S (exec j start) (x .target) (x .mem) false
+      → Safe Q S (planTree (alone j) 0 start) (x .target) (x .mem) false
+  alone-safe Q S j h = subst (λ (w : Wire). Safe Q S w (x .target) (x .mem) false) (sym (alone-tree j 0 start)) h
 
   -- a range that ends below 2^32 is not refused again
   in-range : (read : Bool) (addr : ℕ) → not (leb 0x100000000 (addr + length buf)) ≡ true
@@ -185,8 +206,9 @@ module _ (x : Moment) (k : Kept x) (n : ℕ) (buf : List ℕ) (bytes : Bytes buf
 
   ranged-safe : (Q : Post) (S : Stand) (read : Bool) (addr : ℕ) → not (leb 0x100000000 (addr + length buf)) ≡ true
       → Safe Q S (exec (memFrom read (addr + length buf) (length buf) (length buf)) start) (x .target) (x .mem) false
-      → Safe Q S (exec (mem read addr (length buf)) start) (x .target) (x .mem) false
-  ranged-safe Q S read addr h s = subst (λ (j : Job). Safe Q S (exec j start) (x .target) (x .mem) false) (in-range read addr h) s
+      → Safe Q S (planTree (alone (mem read addr (length buf))) 0 start) (x .target) (x .mem) false
+  ranged-safe Q S read addr h s =
+      alone-safe Q S _ (subst (λ (j : Job). Safe Q S (exec j start) (x .target) (x .mem) false) (in-range read addr h) s)
 
   call-kept : (c : SessionCall) → MemoryKept c (made x (item c) acts)
   unfolding memoryJob
@@ -194,28 +216,28 @@ module _ (x : Moment) (k : Kept x) (n : ℕ) (buf : List ℕ) (bytes : Bytes buf
   call-kept (S.ReadWord addr) =
       let c = S.ReadWord addr in
       either c (MemoryKept c) (λ r. refused-reads r x (item c) acts addr 4 [])
-      (λ h. over-word x n buf acts c addr (k .formed .bytes)
-      (word-read (x .target .base) (x .mem) addr (eqb-true _ _ (checks c h .1)) start (x .target) (idle c refl h)))
+      (λ h. over-word x n l acts c addr (k .formed .bytes) (alone-safe _ _ _
+      (word-read (x .target .base) (x .mem) addr (eqb-true _ _ (checks c h .even)) start (x .target) (idle c refl h))))
   call-kept (S.WriteWord addr w) =
       let c = S.WriteWord addr w in
       either c (MemoryKept c) (λ r. refused-writes r x (item c) acts addr (leBytes w))
-      (λ h. over-write x n buf acts c addr (leBytes w)
-      (word-written (x .target .base) (x .mem) addr (eqb-true _ _ (checks c h .1)) start (x .target) (idle c refl h) w))
+      (λ h. over-write x n l acts c addr (leBytes w) (alone-safe _ _ _
+      (word-written (x .target .base) (x .mem) addr (eqb-true _ _ (checks c h .even)) start (x .target) (idle c refl h) w)))
   call-kept (S.ReadMem addr) =
       let c = S.ReadMem addr in
       either c (MemoryKept c) (λ r. refused-reads r x (item c) acts addr (length buf) buf)
-      (λ h. over-mem x n buf acts c addr (length buf) (ranged-safe _ _ true addr (checks c h .2)
+      (λ h. over-mem x n l acts c addr (length buf) (ranged-safe _ _ true addr (checks c h .below)
       (read-mem (x .target .base) (x .mem) addr (length buf) (k .formed .bytes) start (x .target) (x .mem)
       (record { idle = idle c refl h; same = refl; sized = refl; got = λ i l. absurd (omega arith) }))))
   call-kept (S.WriteMem addr) =
       let c = S.WriteMem addr in
       either c (MemoryKept c) (λ r. refused-writes r x (item c) acts addr buf)
-      (λ h. over-write x n buf acts c addr buf (ranged-safe _ _ false addr (checks c h .2)
-      (write-mem (x .target .base) (x .mem) addr buf (k .formed .bytes) bytes start (x .target) (x .mem)
+      (λ h. over-write x n l acts c addr buf (ranged-safe _ _ false addr (checks c h .below)
+      (write-mem (x .target .base) (x .mem) addr buf (k .formed .bytes) (typed .bytes) start (x .target) (x .mem)
       (record { idle = idle c refl h; buffer = refl; progress = progress-none (x .target .base) (x .mem) addr buf }))))
   call-kept (S.Core c) = tt
   call-kept (S.Fpb c) = tt
 
 -- every call of a session keeps clauses 3 and 4
-pub memory-kept : (x : Moment) (i : Item) (acts : List Act) → Kept x → Bytes (i .buf) → MemoryKept (i .call) (made x i acts)
-memory-kept x i acts k bytes = call-kept x k (i .budget) (i .buf) bytes acts (i .call)
+pub memory-kept : (x : Moment) (i : Item) (acts : List Act) → Kept x → Typed (i .lent) → MemoryKept (i .call) (made x i acts)
+memory-kept x i acts k typed = call-kept x k (i .budget) (i .lent) typed acts (i .call)

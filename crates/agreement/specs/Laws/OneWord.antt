@@ -15,6 +15,7 @@ use Rattle.agreement.specs.Laws.Safe.{Post, Safe}
 use Rattle.agreement.specs.Laws.Progress.{Progress, Next, progress-none, progress-put}
 use Rattle.agreement.specs.Laws.Got.{Held}
 use Rattle.agreement.specs.Laws.Push.{Plans}
+use Rattle.session_calls.specs.Session.{ROOM}
 use Rattle.agreement.specs.Laws.Runs.{Idle, idle-keeps, read-one, write-one}
 use Rattle.agreement.specs.Laws.ReadTurns.{ReadSpent, read-stops}
 use Rattle.agreement.specs.Laws.WriteTurns.{Partly, WriteSpent, WriteEnds, write-stops}
@@ -28,7 +29,7 @@ module _ (base : ℕ) (old : List ℕ) (addr : ℕ) (z : addr % 4 ≡ 0) (m : Me
   pub word-read : Safe (WordEnds base old addr) (ReadSpent base old) (exec (readWord addr) m) t old false
   unfolding exec perform Safe
   word-read =
-      read-one base addr 64 (m .words) (m .buf) old (read-stops base old) (i .size) z (omega arith) .runs
+      read-one base addr ROOM (m .words) (m .buf) old (read-stops base old) (i .size) z (omega arith) .runs
       (record { value = λ v f. ((f .running .poised .start, f .same), f .held); fails = λ e k. k .rest })
       (idle-keeps i refl)
 

@@ -24,6 +24,7 @@ use Rattle.agreement.specs.Laws.Drw.{InKiB}
 use Rattle.agreement.specs.Laws.EachTurn.{EachTurn, all-turns}
 use Rattle.agreement.specs.Laws.Running.{Stays}
 use Rattle.agreement.specs.Laws.Pull.{Same, Filled, OneRead}
+use Rattle.session_calls.specs.Session.{ROOM}
 use Rattle.agreement.specs.Laws.Runs.{Idle, idle-keeps, idle-after, read-run, read-one}
 
 -- `k` of the bytes from `addr` on are in the buffer, which has `len` places
@@ -64,11 +65,11 @@ module _ (base : ℕ) (old : List ℕ) (addr len : ℕ) (bytes : Bytes old) wher
       → Leads (next (4 * n)) (at + 4 * n) → Leads (moveRun true a at n next) at
   unfolding exec perform Safe
   read-words a at n next e z fits some room l after m t mem x =
-      read-run base a 64 (m .words) (m .buf) old (read-stops base old) (x .idle .size) z n room fits some .runs
+      read-run base a ROOM (m .words) (m .buf) old (read-stops base old) (x .idle .size) z n (omega arith) fits some .runs
       (record { value = λ v f. after _ _ _ (stored _ _ _ f); fails = λ e k. k .rest })
       (idle-keeps (x .idle) (x .same))
     where
-      stored : (m′ : Memory) (t′ : Target) (mem′ : List ℕ) → Filled base a old (m .buf) 64 n m′ t′ mem′
+      stored : (m′ : Memory) (t′ : Target) (mem′ : List ℕ) → Filled base a old (m .buf) ROOM n m′ t′ mem′
           → ReadAt base old addr len (at + 4 * n) (changed (C.StoreWords at n) m′) t′ mem′
       stored m′ t′ mem′ f = record {
         idle = idle-after (f .running) (f .sized);
@@ -82,11 +83,11 @@ module _ (base : ℕ) (old : List ℕ) (addr len : ℕ) (bytes : Bytes old) wher
       → Leads (next count) (at + count) → Leads (moveBytes true a at count next) at
   unfolding exec perform Safe
   read-bytes a at count next e p c l after m t mem x =
-      read-one base (a - a % 4) 64 (m .words) (m .buf) old (read-stops base old) (x .idle .size) (omega arith) (omega arith) .runs
+      read-one base (a - a % 4) ROOM (m .words) (m .buf) old (read-stops base old) (x .idle .size) (omega arith) (omega arith) .runs
       (record { value = λ v f. after _ _ _ (stored v _ _ _ f); fails = λ e k. k .rest })
       (idle-keeps (x .idle) (x .same))
     where
-      stored : (v : ℕ) (m′ : Memory) (t′ : Target) (mem′ : List ℕ) → OneRead base (a - a % 4) old (m .buf) 64 v m′ t′ mem′
+      stored : (v : ℕ) (m′ : Memory) (t′ : Target) (mem′ : List ℕ) → OneRead base (a - a % 4) old (m .buf) ROOM v m′ t′ mem′
           → ReadAt base old addr len (at + count) (changed (C.StorePart at (a % 4) count v) m′) t′ mem′
       stored v m′ t′ mem′ f = record {
         idle = idle-after (f .running) (f .sized);

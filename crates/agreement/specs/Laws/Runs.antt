@@ -12,6 +12,7 @@ use Rattle.wire_memap.specs.Action.{Action, _>>_}
 use Rattle.wire_memap.specs.Ports.{TAR, CSW-DEFAULT, ensureCsw, apWrite}
 use Rattle.wire_memap.specs.Words.{readWord, writeWord, readWords, writeWords}
 use Rattle.target.specs.declared.Target.{Target}
+use Rattle.session_calls.specs.Session.{ROOM}
 use Rattle.agreement.specs.Demand3.{Agree}
 use Rattle.agreement.specs.Laws.Safe.{Stand, Post}
 use Rattle.agreement.specs.Laws.Transfer.{Spot, Stops, Triple, Implies, chooses, binds, from}
@@ -29,11 +30,11 @@ pub record Fixed (base : ℕ) (row buf mem : List ℕ) (r : Rest) : Type 0 where
   pub start : r .base ≡ base
   pub same : r .mem ≡ mem
 
--- between two operations: agreement, and a row of 64 words
+-- between two operations: agreement, and a room of words
 pub record Idle (base : ℕ) (m : Memory) (t : Target) : Type 0 where
   pub port : m .remembered .apsel ≡ 0
   pub agree : Agree (m .remembered) t
-  pub size : length (m .words) ≡ 64
+  pub size : length (m .words) ≡ ROOM
   pub width : 10 ≤ t .width
   pub start : t .base ≡ base
 
@@ -46,7 +47,7 @@ idle-keeps i e = record {
 }
 
 -- after a run, with any words and any buffer
-pub idle-after : {base : ℕ} {buf ws b : List ℕ} {m : Memory} {t : Target} → Running base buf m t → length ws ≡ 64
+pub idle-after : {base : ℕ} {buf ws b : List ℕ} {m : Memory} {t : Target} → Running base buf m t → length ws ≡ ROOM
     → Idle base (record { remembered = m .remembered; words = ws; buf = b }) t
 idle-after r s = record {
   port = r .port;

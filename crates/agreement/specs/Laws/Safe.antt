@@ -10,7 +10,7 @@ use Rattle.target.specs.declared.Target.{Target}
 use Rattle.target.specs.declared.Act.{Act}
 use Rattle.target_line.specs.Talk.{talk, actNow, actsThen}
 use Rattle.session_phase.specs.Phase.{loss}
-use Rattle.session_rules.specs.Session.{lostIn}
+use Rattle.session_calls.specs.Session.{lostIn}
 
 -- of the memory, the target, its memory, and whether a transport call was lost
 abbrev pub Stand : Type 1

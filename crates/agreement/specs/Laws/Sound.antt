@@ -1,7 +1,8 @@
--- A check on jobs that needs no target: what a job does to SELECT, here and in the target, goes together. Serves the proofs only.
+-- A check on jobs and plans that needs no target: what a job does to SELECT, here and in the target, goes together. Serves the proofs only.
 use Prim.Native.Nat.{ℕ, _+_}
 use mathlib.Core.Bool.{Bool, true, false, _&&_, cond}
 use lib.Dec.{eqb}
+use Rattle.wire.specs.Wire.{Memory}
 use Rattle.wire.specs.declared.ArmError.{ArmError}
 use Rattle.wire.specs.declared.Outcome.{Outcome}
 use Rattle.wire.specs.declared.Outcome.the-variants.{Value, Failed}
@@ -9,6 +10,8 @@ use Rattle.wire_memap.specs.Ports.{SELECT, a32}
 use Rattle.wire_memap.specs.declared.Op.{Op}
 use Rattle.wire_memap.specs.declared.Op.the-variants as O
 use Rattle.call.specs.Job.{Job, ends, op, keep, attempt, orFail, _>>=_}
+use Rattle.session_calls.specs.Plan.{Plan}
+use Rattle.session_calls.specs.Plan as P
 use Rattle.call.specs.declared.Change.{Change}
 use Rattle.call.specs.declared.Change.the-variants as C
 use Rattle.target.specs.Decode.{rowOf}
@@ -63,6 +66,7 @@ effectOf (C.LoadWords at n) = none
 effectOf (C.Patch at skip count word) = none
 effectOf (C.Put at word) = none
 effectOf (C.Registers r0 r1 r2 r3 sp lr pc) = none
+effectOf (C.Frame r0 r1 r2 r3 sp lr pc xpsr) = none
 
 -- SELECT is written as 0 only where it is forgotten, and remembered so only after that
 abbrev pub Admits : Effect → Stage → Type 0
@@ -90,6 +94,11 @@ unfoldable pub Sound : Job → Stage → Type 0
 Sound (ends o) s = Unit {0}
 Sound (op w good bad) s = Admits (effect w) s × ((v : ℕ) → Sound (good v) (next (effect w) s)) × ((e : ArmError) → Sound (bad e) any)
 Sound (keep c j) s = Admits (effectOf c) s × Sound j (next (effectOf c) s)
+
+-- of a plan every job is
+unfoldable pub Sounds : Plan → Type 0
+Sounds (P.ends o) = Unit {0}
+Sounds (P.call j k) = Sound j any × ((n : ℕ) (m : Memory) (o : Outcome) → Sounds (k n m o))
 
 -- what is sound wherever nothing is known is sound at every stage
 admits-more : (x : Effect) (s : Stage) → Admits x any → Admits x s

@@ -1,5 +1,5 @@
 -- Demand 3 as one theorem: every well-formed target, whatever the width of its increment; every list of session calls with their
--- budgets and buffers; every line.
+-- budgets and what is lent for them; every line.
 use Prim.Native.Nat.{ℕ}
 use mathlib.Core.Bool.{Bool, true, false, false≢true}
 use mathlib.Core.List.{List, [], _∷_}
@@ -8,9 +8,9 @@ use lib.ListN.{length, drop}
 use Rattle.target.specs.WellFormed.{WellFormed}
 use Rattle.target.specs.declared.Target.{Target}
 use Rattle.target.specs.declared.Act.{Act}
-use Rattle.session_rules.specs.Session.{closed}
-use Rattle.session_items.specs.History.{Item, Moment, first, made, history, lastOf}
-use Rattle.agreement.specs.Demand3.{Told, standingAfter, openTold, Buffers, openAfter, MemoryKept, Each, none, and, InStep}
+use Rattle.session_calls.specs.Session.{closed}
+use Rattle.agreement.specs.History.{Item, Moment, first, made, history, lastOf}
+use Rattle.agreement.specs.Demand3.{Told, standingAfter, openTold, AllTyped, openAfter, MemoryKept, Each, none, and, InStep}
 use Rattle.agreement.specs.Laws.Kept.{Kept}
 use Rattle.agreement.specs.Laws.Keep.{keeps}
 use Rattle.agreement.specs.Laws.Memory.{memory-kept}
@@ -20,7 +20,7 @@ use Rattle.agreement.specs.Laws.Opens.{open-next, open-told}
 pub open-as-told : (xs : List Told) → standingAfter closed xs .isOpen ≡ openTold false closed xs
 open-as-told xs = open-told closed xs
 
-each : (x : Moment) (items : List Item) (acts : List Act) → Kept x → Buffers items → Each (λ m. MemoryKept (m .item .call) m) (history x items acts)
+each : (x : Moment) (items : List Item) (acts : List Act) → Kept x → AllTyped items → Each (λ m. MemoryKept (m .item .call) m) (history x items acts)
 unfolding history
 each x [] acts k b = none
 each x (i ∷ items) acts k b =
@@ -39,9 +39,9 @@ last-open x [] acts = refl
 last-open x (i ∷ items) acts =
     last-open (made x i acts .after) items (drop (length (made x i acts .answers)) acts)
     ∙ ap (λ (b : Bool). openAfter b (history (made x i acts .after) items (drop (length (made x i acts .answers)) acts)))
-    (open-next (x .standing) (i .call) (i .buf) (made x i acts .answers))
+    (open-next (x .standing) (i .call) (i .lent) (made x i acts .answers))
 
-pub demand3 : (t : Target) (mem : List ℕ) → WellFormed t mem → (items : List Item) → Buffers items → (acts : List Act)
+pub demand3 : (t : Target) (mem : List ℕ) → WellFormed t mem → (items : List Item) → AllTyped items → (acts : List Act)
     → InStep (first t mem) (history (first t mem) items acts)
 demand3 t mem f items b acts = record {
   opened = last-open (first t mem) items acts;

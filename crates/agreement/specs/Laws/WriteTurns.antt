@@ -29,6 +29,7 @@ use Rattle.agreement.specs.Laws.EachTurn.{EachTurn, all-turns}
 use Rattle.agreement.specs.Laws.Running.{Stays}
 use Rattle.agreement.specs.Laws.Push.{Plans, Wrote}
 use Rattle.agreement.specs.Laws.Pull.{Same, OneRead}
+use Rattle.session_calls.specs.Session.{ROOM}
 use Rattle.agreement.specs.Laws.Runs.{Idle, idle-keeps, idle-after, write-run, read-one}
 
 -- some of the new bytes stand in memory
@@ -154,7 +155,7 @@ module _ (base : ℕ) (old : List ℕ) (addr : ℕ) (new : List ℕ) (bo : Bytes
       patch-plans : Plans base low 1 word N Plan
       patch-plans = record { whole = omega arith; fits = omega arith; holds = plan-holds; step = patch-step }
 
-    write-patched : (v : ℕ) {buf : List ℕ} (m : Memory) (t : Target) (y : List ℕ) → m .buf ≡ new → OneRead base low mem buf 64 v m t y
+    write-patched : (v : ℕ) {buf : List ℕ} (m : Memory) (t : Target) (y : List ℕ) → m .buf ≡ new → OneRead base low mem buf ROOM v m t y
         → Safe Q S (exec (keep (C.Patch at (a % 4) count v) (just (O.WriteWords low 1 0) >> next count)) m) t y false
     unfolding exec perform Safe
     write-patched v m t y b x =
@@ -172,7 +173,7 @@ module _ (base : ℕ) (old : List ℕ) (addr : ℕ) (new : List ℕ) (bo : Bytes
         named : word 0 ≡ patchWord count v (a % 4) (drop at new)
         named = getD-set-same (m .words) 0 _ 0 (omega (arith, x .sized)) ∙ ap (λ (z : List ℕ). patchWord count v (a % 4) (drop at z)) b
 
-        sized : length row ≡ 64
+        sized : length row ≡ ROOM
         sized = length-set (m .words) 0 _ ∙ x .sized
 
         patched : Idle base (record { remembered = m .remembered; words = row; buf = m .buf }) t
@@ -190,7 +191,7 @@ module _ (base : ℕ) (old : List ℕ) (addr : ℕ) (new : List ℕ) (bo : Bytes
       → Leads (next count) (at + count) → Leads (moveBytes false a at count next) at
   unfolding exec perform Safe
   write-bytes a at count next e p c l after m t mem x =
-      read-one base (a - a % 4) 64 (m .words) (m .buf) mem halts (x .idle .size) (omega arith) (omega arith) .runs
+      read-one base (a - a % 4) ROOM (m .words) (m .buf) mem halts (x .idle .size) (omega arith) (omega arith) .runs
       (record {
         value = λ v f. write-patched a at count next e p c l after mem (x .progress) v _ _ _ (f .running .buffer ∙ x .buffer) f;
         fails = λ u k. (k .rest .0, (at, rw (k .rest .1) (x .progress)));

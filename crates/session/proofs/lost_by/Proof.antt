@@ -8,5 +8,7 @@ use Rattle.session.proofs.lost_by.Tie as tie
 
 pub lost-by-spec : {M : Type 1} → statement M
 lost-by-spec =
-    tie.close (tie.spec (λ c κs. search needs) (λ c κs. search needs)
-    (λ c ws b. let a = c .before .before .args in c .has-lost .ensures ∙ ap (λ (x : Bool). a .lost || (x && loss (a .a))) (c .before .awaits .ensures ws b)))
+    tie.close (tie.spec
+    (λ c κs. search needs) (λ c κs. search needs)
+    (λ c. λ ws b. let a = c .before .before .args in
+    c .has-lost .ensures ∙ ap (λ (x : Bool). a .lost || (x && loss (a .a))) (c .before .awaits .ensures ws b)))

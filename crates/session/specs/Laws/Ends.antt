@@ -1,53 +1,87 @@
--- How the session goes by the answer in numbers, and that it goes as by the tree. Serves the proofs only.
+-- How the session goes by the engine's answer in numbers, and that it goes as by the tree. Serves the proofs only.
 use Prim.Native.Nat.{ℕ}
-use mathlib.Core.Bool.{Bool}
-use mathlib.Core.List.{List}
-use mathlib.Core.Path.{_≡_, refl, sym, ap, subst, _∙_}
+use mathlib.Core.Bool.{Bool, true, false, cond}
+use mathlib.Core.List.{List, []}
+use mathlib.Core.Path.{_≡_, refl, ap, _∙_}
 use lib.Dec.{eqb}
-use Rattle.wire.specs.Wire.{Wire, Memory, memoryOf, done, ask, tell, ended}
-use Rattle.wire.specs.declared.Remembered.{Remembered}
+use Rattle.wire.specs.Bytes.{handed, padded}
+use Rattle.wire.specs.Wire.{Wire, done, ask, tell, ended, spent}
+use Rattle.wire.specs.declared.Call.{Call}
+use Rattle.wire_numbers.specs.Numbers.{numbersOf}
+use Rattle.wire_numbers.specs.Results.{endingOf}
 use Rattle.wire_numbers.specs.Laws.Result.{number-tells}
-use Rattle.engine_calls.specs.Calls.{leave}
-use Rattle.engine.specs.Step.{nextOf, memoryIn}
+use Rattle.wire_numbers.specs.declared.TransportCall.{TransportCall}
+use Rattle.engine.specs.Step.{nextOf, bytesOf}
 use Rattle.engine.specs.declared.NextStep.{NextStep}
-use Rattle.engine.specs.declared.NextStep.the-variants as N
-use Rattle.session_phase.specs.Phase.{phaseEnded}
-use Rattle.session_rules.specs.Session.{frameBy}
-use Rattle.session.specs.Step.{phaseIn, frameIn, Answers}
+use Rattle.engine.specs.declared.NextStep.the-variants as E
+use Rattle.session_phase.specs.Phase.{Now, over, due, nowOf, phaseNow, phaseDue, phaseEnded}
+use Rattle.session_phase.specs.Laws.Phase.{spent-closed}
 use Rattle.session_phase.specs.declared.Kind.{Kind}
 use Rattle.session_phase.specs.declared.Phase.{Phase}
 use Rattle.session_phase.specs.declared.Phase.the-variants as P
-use Rattle.session.specs.declared.Session.{Session}
-use Rattle.session.specs.declared.Reply.{Reply}
+use Rattle.session.specs.Step.{numbered, nextBy, bytesBy}
+use Rattle.session.specs.declared.SessionNext.{SessionNext}
+use Rattle.session.specs.declared.SessionNext.the-variants as N
+
+abbrev pub dueUnder : ℕ → ℕ → TransportCall → SessionNext
+dueUnder left made c = cond (eqb left 0) (N.Finish (numbered (endingOf spent) made)) (N.Make c)
+
+abbrev pub nextUnder : ℕ → ℕ → NextStep → SessionNext
+nextUnder left made (E.Make c) = dueUnder left made c
+nextUnder left made (E.Finish e) = N.Finish (numbered e made)
 
 -- number 0 is success
-abbrev pub phaseFor : Kind → Bool → NextStep → Phase
-phaseFor kind lost (N.Make c) = P.Running kind lost
-phaseFor kind lost (N.Finish e) = phaseEnded kind lost (eqb (e .number) 0)
+abbrev pub phaseUnder : Kind → Bool → ℕ → NextStep → Phase
+phaseUnder kind lost left (E.Make c) = phaseDue kind lost left
+phaseUnder kind lost left (E.Finish e) = phaseEnded kind lost (eqb (e .number) 0)
 
-abbrev pub frameAt : Kind → NextStep → List ℕ → List ℕ → List ℕ
-frameAt kind (N.Make c) row frame = frame
-frameAt kind (N.Finish e) row frame = leave (frameBy kind) (eqb (e .number) 0) row frame
+abbrev pub bytesUnder : ℕ → NextStep → List ℕ → List ℕ
+bytesUnder left (E.Make c) bytes = cond (eqb left 0) (padded []) bytes
+bytesUnder left (E.Finish e) bytes = bytes
 
-phase-next : (kind : Kind) (lost : Bool) (w : Wire) → phaseFor kind lost (nextOf w) ≡ phaseIn kind lost w
-phase-next kind lost (done m o) = ap (phaseEnded kind lost) (number-tells (ended o))
-phase-next kind lost (ask m c f) = refl
-phase-next kind lost (tell m c w) = refl
+-- with a transport call due, by whether the budget is used up
+module _ (c : Call) where
+  abbrev by : Bool → Now
+  by none = cond none (over spent) (due c)
 
-frame-next : (kind : Kind) (w : Wire) (frame : List ℕ) → frameAt kind (nextOf w) (memoryIn w .words) frame ≡ frameIn kind w frame
-frame-next kind (done m o) frame = ap (λ (ok : Bool). leave (frameBy kind) ok (m .words) frame) (number-tells (ended o))
-frame-next kind (ask m c f) frame = refl
-frame-next kind (tell m c w) frame = refl
+  next-due : (none : Bool) (made : ℕ)
+      → cond none (N.Finish (numbered (endingOf spent) made)) (N.Make (numbersOf c)) ≡ nextBy made (by none)
+  next-due true made = refl
+  next-due false made = refl
 
-pub phase-at : (kind : Kind) (lost : Bool) (w : Wire) (n : NextStep) → n ≡ nextOf w → phaseFor kind lost n ≡ phaseIn kind lost w
-phase-at kind lost w n h = ap (phaseFor kind lost) h ∙ phase-next kind lost w
+  phase-due : (none : Bool) (kind : Kind) (lost : Bool) → cond none P.Closed (P.Running kind lost) ≡ phaseNow kind lost (by none)
+  phase-due true kind lost = spent-closed kind lost
+  phase-due false kind lost = refl
 
-pub frame-at : (kind : Kind) (w : Wire) (n : NextStep) (r : Remembered) (row buf frame : List ℕ)
-    → n ≡ nextOf w → memoryOf r row buf ≡ memoryIn w → frameAt kind n row frame ≡ frameIn kind w frame
-frame-at kind w n r row buf frame h k =
-    ap (λ (x : NextStep). frameAt kind x row frame) h ∙ ap (λ (m : Memory). frameAt kind (nextOf w) (m .words) frame) k ∙ frame-next kind w frame
+  bytes-due : (none : Bool) → cond none (padded []) (padded (handed c)) ≡ padded (bytesBy (by none))
+  bytes-due true = refl
+  bytes-due false = refl
 
-pub answers-as : (kind kind₂ : Kind) (lost lost₂ : Bool) (before : List ℕ) (w : Wire) (s : Session) (r : Reply) (buf : List ℕ)
-    → kind ≡ kind₂ → lost ≡ lost₂ → Answers kind lost before w s r buf → Answers kind₂ lost₂ before w s r buf
-answers-as kind kind₂ lost lost₂ before w s r buf hk hl h =
-    subst (λ (k : Kind). Answers k lost₂ before w s r buf) hk (subst (λ (l : Bool). Answers kind l before w s r buf) hl h)
+-- by what comes next in a tree
+module _ (left : ℕ) where
+  next-under : (made : ℕ) (w : Wire) → nextUnder left made (nextOf w) ≡ nextBy made (nowOf left w)
+  next-under made (done m o) = refl
+  next-under made (ask m c f) = next-due c (eqb left 0) made
+  next-under made (tell m c w) = next-due c (eqb left 0) made
+
+  phase-under : (kind : Kind) (lost : Bool) (w : Wire) → phaseUnder kind lost left (nextOf w) ≡ phaseNow kind lost (nowOf left w)
+  phase-under kind lost (done m o) = ap (phaseEnded kind lost) (number-tells (ended o))
+  phase-under kind lost (ask m c f) = phase-due c (eqb left 0) kind lost
+  phase-under kind lost (tell m c w) = phase-due c (eqb left 0) kind lost
+
+  bytes-under : (w : Wire) → bytesUnder left (nextOf w) (padded (bytesOf w)) ≡ padded (bytesBy (nowOf left w))
+  bytes-under (done m o) = refl
+  bytes-under (ask m c f) = bytes-due c (eqb left 0)
+  bytes-under (tell m c w) = bytes-due c (eqb left 0)
+
+-- and by what the engine told of it
+module _ (left : ℕ) (w : Wire) (n : NextStep) (h : n ≡ nextOf w) where
+  pub next-at : (made made₂ : ℕ) → made ≡ made₂ → nextUnder left made n ≡ nextBy made₂ (nowOf left w)
+  next-at made made₂ e = ap (nextUnder left made) h ∙ ap (λ (k : ℕ). nextUnder left k (nextOf w)) e ∙ next-under left made₂ w
+
+  pub phase-at : (kind : Kind) (lost : Bool) → phaseUnder kind lost left n ≡ phaseNow kind lost (nowOf left w)
+  phase-at kind lost = ap (phaseUnder kind lost left) h ∙ phase-under left kind lost w
+
+  pub bytes-at : (bytes : List ℕ) → bytes ≡ padded (bytesOf w) → bytesUnder left n bytes ≡ padded (bytesBy (nowOf left w))
+  bytes-at bytes e =
+      ap (λ (x : NextStep). bytesUnder left x bytes) h ∙ ap (bytesUnder left (nextOf w)) e ∙ bytes-under left w

@@ -8,7 +8,6 @@ phase-ended-spec =
     tie.close (tie.spec
     (λ c. simp (c .if1 .taken)) (λ c. search needs)
     (λ c. simp (c .before .before .before .if1 .left) (simp (c .before .enum-told .given .1) (simp (c .if2 .taken))))
-    (λ c. search needs) (λ c. search needs)
+    (λ c. search needs)
     (λ c. simp (c .before .before .before .if1 .left) (simp (c .before .enum-told .given .1) (simp (c .if2 .left))))
-    (λ c. simp (c .before .before .if1 .left) (simp (c .enum-told2 .given .1)))
-    (λ c. simp (c .before .before .if1 .left) (simp (c .enum-told3 .given .1))))
+    (λ c. simp (c .before .before .if1 .left) (simp (c .enum-told2 .given .1))))

@@ -5,4 +5,4 @@ use Rattle.session_phase.proofs.remembered_for.Tie as tie
 pub remembered-for-spec : {M : Type 1} → statement M
 remembered-for-spec =
     tie.close (tie.spec
-    (λ c. simp (c .if1 .taken)) (λ c. search needs))
+    (λ c. search needs) (λ c. search needs) (λ c. simp (c .enum-told .given .1)) (λ c. search needs))

@@ -5,6 +5,5 @@ use Rattle.session_rules.proofs.is_aligned.Tie as tie
 pub is-aligned-spec : {M : Type 1} → statement M
 is-aligned-spec =
     tie.close (tie.spec
-    (λ c. search needs) (λ c. search needs) (λ c. search needs) (λ c. search needs) (λ c. search needs) (λ c. search needs) (λ c. search needs)
-    (λ c κs. search needs) (λ c. search needs) (λ c. simp (c .before .c .given .1)) (λ c. simp (c .before .c2 .given .1)) (λ c. search needs)
-    (λ c. search needs) (λ c. search needs) (λ c. simp (c .before .before .c3 .given .1, c .breakpoint-of .ensures)))
+    (λ c. search needs) (λ c. search needs) (λ c. search needs) (λ c. search needs)
+    (λ c. simp (c .enum-told2 .given .1)) (λ c. simp (c .enum-told3 .given .1)))

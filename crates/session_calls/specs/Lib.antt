@@ -1,0 +1,4 @@
+pub mod Calls
+pub mod Plan
+pub mod Session
+pub mod Laws

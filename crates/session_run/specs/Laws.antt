@@ -1,6 +1,0 @@
-pub mod Walk
-pub mod Ran
-pub mod Under
-pub mod Turn
-pub mod List
-pub mod Listing

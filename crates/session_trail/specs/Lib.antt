@@ -1,0 +1,4 @@
+pub mod Trail
+pub mod Chain
+pub mod Loops
+pub mod Laws
