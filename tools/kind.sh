@@ -7,8 +7,8 @@ kind() {
         crates/*/specs/*.antt) echo believed ;;
         crates/*/proofs/*.antt) echo proofs ;;
         crates/*/must-fail/*.edit) echo edits ;;
-        crates/*/stdin | crates/*/stdout | crates/*/args | crates/*/data/*) echo stored ;;
         *.md) echo documents ;;
+        crates/*/stdin | crates/*/stdout | crates/*/args | crates/*/data/* | lists/*) echo stored ;;
         *) echo tools ;;
     esac
 }

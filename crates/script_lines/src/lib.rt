@@ -2,16 +2,19 @@
 // place behind it; what falls outside `out` is dropped.
 ghost use mathlib.Core.Path.{_≡_};
 ghost use mathlib.Core.List.{[], _∷_, map};
-ghost use Prim.Native.Nat.{_+_, _*_, _^_, _≤_, _<_, max};
+ghost use Prim.Native.Nat.{_+_, _*_, _^_, _≤_, _<_, max, min};
 ghost use lib.ListN.{length};
-ghost use Rattle.wire.specs.Bytes.{handed};
+ghost use Rattle.wire.specs.Bytes.{handed, padded};
+ghost use Rattle.wire.specs.declared.Call.{Call};
 ghost use Rattle.wire_numbers.specs.Numbers.{numbersOf};
 ghost use Rattle.wire_numbers.specs.Log.{callOf};
 ghost use Rattle.script_lines.specs.Text.{space, digit, digits, decimal, hex, hexByte, hexWord, together};
 ghost use Rattle.script_lines.specs.Listing.{bitsText, callText, callLine, callLines, resultLine, malformedText, dataStart, dataLine, shownText, listed};
 ghost use Rattle.script_lines.specs.Laws.Puts.{Puts};
+ghost use Rattle.script_lines.specs.Laws.Numbers.{handedText, numbersText, numbersLine};
 use wire::Call;
 use wire_numbers::CallEnding;
+use wire_numbers::TransportCall;
 
 // What stands behind the result: no line, or the line `D` of words or of bytes.
 pub enum Shown {
@@ -150,51 +153,68 @@ fn put_bits(out: &mut [u8], at: usize, letter: u8, bits: u8, bytes: &[u8]) -> us
     put_hex_bytes(out, p4, bytes)
 }
 
-// A call that hands bytes over.
-fn put_handed(out: &mut [u8], at: usize, c: Call) -> usize
-    requires { ⌜ at ≤ 2 ^ 59 ⌝ }
-    ensures { λ r. ⌜ Puts (now (out .entry)) at (bitsText (numbersOf c .kind) (numbersOf c .bits) (handed c)) (now (out .exit)) r
-        × (r ≤ at + 45) ⌝ }
+// How many of the sixteen bytes beside a transport call are handed over.
+fn handed_bytes(len: u8) -> usize
+    ensures { λ r. ⌜ r ≡ min len 16 ⌝ }
 {
-    let n = wire_numbers::numbers_of(c);
-    let bytes = wire_numbers::bytes_of(c);
-    let len = n.len as usize;
-    put_bits(out, at, n.kind, n.bits, &bytes[..len])
+    if len < 16 {
+        return len as usize;
+    }
+    16
 }
 
-fn put_call(out: &mut [u8], at: usize, c: Call) -> usize
+// A transport call that hands bytes over.
+fn put_handed(out: &mut [u8], at: usize, c: TransportCall, bytes: [u8; 16]) -> usize
     requires { ⌜ at ≤ 2 ^ 59 ⌝ }
-    ensures { λ r. ⌜ Puts (now (out .entry)) at (callText c) (now (out .exit)) r × (r ≤ at + 45) ⌝ }
+    ensures { λ r. ⌜ Puts (now (out .entry)) at (handedText c bytes) (now (out .exit)) r × (r ≤ at + 45) ⌝ }
 {
-    match c {
-        Call::Transfer { request, word } => put_transfer(out, at, request, word),
-        Call::Connect => put(out, at, b'C'),
-        Call::Sequence(p) => put_handed(out, at, Call::Sequence(p)),
-        Call::Pins {
-            output,
-            select,
-            wait_us,
-        } => put_pins(out, at, output, select, wait_us),
-        Call::WriteBits { bits, word } => put_handed(
-            out,
-            at,
-            Call::WriteBits {
-                bits: bits,
-                word: word,
-            },
-        ),
-        Call::OutputEnable => put(out, at, b'O'),
+    let len = handed_bytes(c.len);
+    put_bits(out, at, c.kind, c.bits, &bytes[..len])
+}
+
+// A transport call in numbers, with the bytes beside it.
+fn put_call(out: &mut [u8], at: usize, c: TransportCall, bytes: [u8; 16]) -> usize
+    requires { ⌜ at ≤ 2 ^ 59 ⌝ }
+    ensures { λ r. ⌜ Puts (now (out .entry)) at (numbersText c bytes) (now (out .exit)) r × (r ≤ at + 45) ⌝ }
+{
+    let kind = c.kind;
+    if kind == b'T' {
+        return put_transfer(out, at, c.request, c.word);
     }
+    if kind == b'P' {
+        return put_pins(out, at, c.output, c.select, c.word);
+    }
+    if (kind == b'C') | (kind == b'O') {
+        return put(out, at, kind);
+    }
+    put_handed(out, at, c, bytes)
+}
+
+fn put_numbers(out: &mut [u8], at: usize, number: u32, c: TransportCall, bytes: [u8; 16]) -> usize
+    requires { ⌜ at ≤ 2 ^ 58 ⌝ }
+    ensures { λ r. ⌜ Puts (now (out .entry)) at (numbersLine number c bytes) (now (out .exit)) r × (r ≤ at + 57) ⌝ }
+{
+    let p = put_decimal(out, at, number);
+    let p2 = put(out, p, b' ');
+    let p3 = put_call(out, p2, c, bytes);
+    put(out, p3, b'\n')
 }
 
 fn put_line(out: &mut [u8], at: usize, number: u32, c: Call) -> usize
     requires { ⌜ at ≤ 2 ^ 58 ⌝ }
     ensures { λ r. ⌜ Puts (now (out .entry)) at (callLine number c) (now (out .exit)) r × (r ≤ at + 57) ⌝ }
 {
-    let p = put_decimal(out, at, number);
-    let p2 = put(out, p, b' ');
-    let p3 = put_call(out, p2, c);
-    put(out, p3, b'\n')
+    let n = wire_numbers::numbers_of(c);
+    let bytes = wire_numbers::bytes_of(c);
+    put_numbers(out, at, number, n, bytes)
+}
+
+// The line of a transport call as a step answers with it.
+pub fn put_made(out: &mut [u8], number: u32, c: TransportCall, bytes: [u8; 16]) -> usize
+    ensures { λ r. ⌜ ((made : Call) → c ≡ numbersOf made → bytes ≡ padded (handed made)
+        → Puts (now (out .entry)) 0 (callLine number made) (now (out .exit)) r) × (r ≤ 57) ⌝ }
+{
+    put_numbers(out, 0, number, c, bytes)
 }
 
 // A line for each transport call of a log.
@@ -264,6 +284,13 @@ fn put_shown(out: &mut [u8], at: usize, s: Shown, words: &[u32], buf: &[u8]) -> 
         Shown::Words => put_words_line(out, at, words),
         Shown::Bytes => put_bytes_line(out, at, buf),
     }
+}
+
+// The line of a result on its own.
+pub fn put_ending(out: &mut [u8], e: CallEnding) -> usize
+    ensures { λ r. ⌜ Puts (now (out .entry)) 0 (resultLine e) (now (out .exit)) r × (r ≤ 20) ⌝ }
+{
+    put_result(out, 0, e)
 }
 
 // What is printed for bytes that are no script.

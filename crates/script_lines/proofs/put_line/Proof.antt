@@ -1,18 +1,15 @@
--- The texts of the parts, one behind the other.
+-- The numbers of a transport call have its line.
 use borrow.Author.Needs.{needs}
-use Rattle.script_lines.specs.Laws.Puts.{puts-then}
+use Rattle.script_lines.specs.Laws.Numbers.{numbers-line}
 use Rattle.script_lines.proofs.put_line.Statement.{statement}
 use Rattle.script_lines.proofs.put_line.Tie as tie
 
 pub put-line-spec : {M : Type 1} → statement M
 put-line-spec =
     tie.close (tie.spec
-    (λ c κs. search needs) (λ c κs. search needs) (λ c κs. search needs) (λ c κs. search needs) (λ c. search needs)
-    (λ c. let c₁ = c .before .before in
-    let c₂ = c₁ .before .before .before .before in
-    let c₃ = c₂ .before .before .before .before in
-    let c₄ = c₃ .before .before .before .before in (
-      (puts-then (c₄ .put-decimal .ensures .0) (puts-then (c₃ .put .ensures) (puts-then (c₂ .put-call .ensures .0)
-          (c₁ .put2 .ensures)))),
+    (λ c κs. search needs) (λ c κs. search needs) (λ c κs. search needs) (λ c. search needs)
+    (λ c. let d = c .before .before .before .before in (
+      rw (numbers-line _ (d .before .before .before .args .c) _ _ (d .before .numbers-of .ensures) (d .bytes-of .ensures))
+          at (c .before .before .put-numbers .ensures .0),
       search needs,
     )))

@@ -83,50 +83,6 @@ unfolding callLines
 left-lines xs i n {l₀} {i₀} {t₀} {l} {p} le h =
     left-none (subst (λ (ys : List ℕ). Left l₀ i₀ t₀ l p (callLines n (map callOf ys))) (drop-of-length-le xs le) h)
 
-pattern-most : (p : Pattern) → length (patternBytes p) ≤ 16
-pattern-most P.ResetHigh = omega arith
-pattern-most P.ResetIdle = omega arith
-pattern-most P.JtagToSwd = omega arith
-pattern-most P.SwdToDormant = omega arith
-pattern-most P.AlertHigh = omega arith
-pattern-most P.SelectionAlert = omega arith
-pattern-most P.AlertIdle = omega arith
-pattern-most P.SwdActivation = omega arith
-
--- the bytes handed over are the first of the sixteen that `bytes_of` answers
-at-most : (c : Call) → length (handed c) ≤ 16
-at-most (C.Transfer request word) = omega arith
-at-most C.Connect = omega arith
-at-most (C.Sequence p) = pattern-most p
-at-most (C.Pins output select wait) = omega arith
-at-most (C.WriteBits bits word) = omega (arith, length-take ((bits + 7) / 8) (leBytes word))
-at-most C.OutputEnable = omega arith
-
-handed-len : (c : Call) → numbersOf c .len ≡ length (handed c)
-handed-len (C.Transfer request word) = refl
-handed-len C.Connect = refl
-handed-len (C.Sequence p) = refl
-handed-len (C.Pins output select wait) = refl
-handed-len (C.WriteBits bits word) = refl
-handed-len C.OutputEnable = refl
-
-module _ (c : Call) (n : TransportCall) (b : List ℕ) (hn : n ≡ numbersOf c) (hb : b ≡ padded (handed c)) where
-  pub handed-bytes : take (n .len) b ≡ handed c
-  handed-bytes = rw (hn, hb, handed-len c) (take-at (handed c) (replicate (16 - length (handed c)) 0) (length (handed c)) refl)
-
-  pub handed-count : n .len ≡ length (take (n .len) b)
-  handed-count = rw handed-bytes (ap (λ (x : TransportCall). x .len) hn ∙ handed-len c)
-
-  pub handed-most : length (take (n .len) b) ≤ 16
-  handed-most = rw handed-bytes (at-most c)
-
-  pub handed-fits : n .len ≤ length b
-  handed-fits = omega (arith, handed-count, length-take (n .len) b)
-
-  pub handed-puts : {l : List ℕ} {i : ℕ} {l₁ : List ℕ} {r : ℕ}
-      → Puts l i (bitsText (n .kind) (n .bits) (take (n .len) b)) l₁ r → Puts l i (bitsText (numbersOf c .kind) (numbersOf c .bits) (handed c)) l₁ r
-  handed-puts h = rw (← hn) (rw (← handed-bytes) h)
-
 module _ (log : List ℕ) (e : CallEnding) (s : Shown) (words buf : List ℕ) where
   pub listed-all : length log + length words + length buf ≤ 0xFFFFFFFF → listed log e s words buf ≡ runLines log e s words buf
   unfolding listed
