@@ -1,4 +1,4 @@
-//! The model target and its line, from document 01 and ADIv5.2 alone.
+//! The model target and its line, from document 01 alone.
 
 use list::{Answer, Fault, Fields, LOST_DELIVERED, WAIT};
 use std::fmt::Write;
