@@ -151,13 +151,13 @@ pub fn idle(r: Remembered) -> State
 }
 
 // The same call, over the room.
-pub fn over_row(s: State) -> State
+pub fn over_room(s: State) -> State
     ensures { λ r. ⌜ ((ws b : List ℕ) → stateTree r ws b ≡ stateTree s ws b) × (ownOf (r .call) ≡ false) ⌝ }
 {
     let t = s.transfer;
     let m = s.op;
     let mut c = s.call;
-    engine_words::over_row(&mut c);
+    engine_words::over_room(&mut c);
     State {
         transfer: t,
         op: m,

@@ -5,7 +5,7 @@ ghost use Rattle.wire.specs.Laws.Told.{outcomeOf};
 ghost use Rattle.wire.specs.declared.Answer.the-variants.{Good};
 ghost use Rattle.wire_numbers.specs.Results.{resultOf};
 ghost use Rattle.engine_words.specs.Status.{running};
-ghost use Rattle.engine_words.specs.Laws.State.{atOf, onRow};
+ghost use Rattle.engine_words.specs.Laws.State.{atOf, onRoom};
 ghost use Rattle.engine_words.specs.Laws.Step.{storedAt, EndsIn, BeginsNext, Changes, AsksIn, FinishesIn, StepsIn, StartedIn, SteppedIn, TriesIn};
 use call::Asks;
 use call::Change;
@@ -245,8 +245,8 @@ pub fn ending(c: &[u32; 9]) -> CallEnding
 }
 
 // The same call, over the room.
-pub fn over_row(c: &mut [u32; 9])
-    ensures { λ _. ⌜ now (c .exit) ≡ onRow (now (c .entry)) ⌝ }
+pub fn over_room(c: &mut [u32; 9])
+    ensures { λ _. ⌜ now (c .exit) ≡ onRoom (now (c .entry)) ⌝ }
 {
     let status = c[STATUS];
     c[STATUS] = status - status % 2;

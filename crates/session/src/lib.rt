@@ -1,27 +1,18 @@
-// The session: the calls that 01 admits, over what is remembered between them and under a budget each.
-ghost use mathlib.Core.Bool.{false, _||_};
+// A session as it stands, and what it answers: by the engine's answer, to what it refuses, and of a call that was left.
 ghost use mathlib.Core.List.{List};
 ghost use mathlib.Core.Path.{_≡_};
 ghost use Prim.Native.Nat.{ℕ};
-ghost use Rattle.wire.specs.Wire.{Wire};
-ghost use Rattle.wire_memap.specs.Laws.Doing.{rememberedOf};
-ghost use Rattle.engine.specs.Laws.State.{stateTree};
-ghost use Rattle.engine.specs.Step.{Steps};
 ghost use Rattle.session_calls.specs.Session.{closed, lending};
-ghost use Rattle.session_phase.specs.declared.Phase.the-variants.{Closed, Running};
-ghost use Rattle.session_rules.specs.declared.Check.the-variants.{Pass};
-ghost use Rattle.session.specs.Step.{standing, frameAt, frameGiven, lostBy, Answers, Refused, rested, StartedBy, Started, SteppedIn, Stepped};
-ghost use Rattle.session.specs.Laws.Ends.{dueUnder, nextUnder, phaseUnder, bytesUnder};
+ghost use Rattle.session_phase.specs.declared.Phase.the-variants.{Closed};
+ghost use Rattle.session.specs.Answer.{standing, frameAt, frameGiven, Refused, rested};
+ghost use Rattle.session.specs.Laws.Ends.{dueUnder, nextUnder, phaseUnder, bytesUnder, settledBy};
 use call_core::CallFrame;
 use engine::NextStep;
 use engine::State;
 use engine::StepAnswer;
-use session_calls::Order;
 use session_phase::Kind;
 use session_phase::Phase;
-use session_rules::Check;
 use session_rules::Refusal;
-use wire::Answer;
 use wire::Remembered;
 use wire_numbers::TransportCall;
 
@@ -62,6 +53,34 @@ pub struct SessionAnswer {
 pub enum FrameGiven {
     Frame(CallFrame),
     Nothing,
+}
+
+// A session that has made no call: closed, and nothing known of the target.
+pub fn fresh() -> Session
+    ensures { λ r. ⌜ (standing r ≡ closed) × (r .phase ≡ Closed) ⌝ }
+{
+    let state = engine::idle(engine::new());
+    Session {
+        phase: Phase::Closed,
+        budget: 0,
+        left: 0,
+        state: state,
+    }
+}
+
+// Whether a session is open.
+pub fn open(s: Session) -> bool
+    ensures { λ r. ⌜ r ≡ standing s .isOpen ⌝ }
+{
+    let phase = s.phase;
+    session_phase::is_open(phase)
+}
+
+// What it remembers of the target.
+pub fn remembered(s: Session) -> Remembered
+    ensures { λ r. ⌜ r ≡ standing s .remembered ⌝ }
+{
+    engine::remembered(s.state)
 }
 
 // 01's number of a call whose budget did not suffice.
@@ -120,9 +139,8 @@ fn bytes_under(left: u32, n: NextStep, bytes: [u8; 16]) -> [u8; 16]
 }
 
 // The session and its reply after the engine's answer.
-fn settled(kind: Kind, lost: bool, budget: u32, left: u32, x: StepAnswer) -> SessionAnswer
-    ensures { λ r. ⌜ ((w : Wire) (room list buf : List ℕ) → Steps w x room buf
-        → Answers kind lost budget left w list (r .session) (r .reply) (lending room list buf)) ⌝ }
+pub fn settled(kind: Kind, lost: bool, budget: u32, left: u32, x: StepAnswer) -> SessionAnswer
+    ensures { λ r. ⌜ r ≡ settledBy kind lost budget left x ⌝ }
 {
     let n = x.next;
     let state = x.state;
@@ -146,7 +164,7 @@ fn settled(kind: Kind, lost: bool, budget: u32, left: u32, x: StepAnswer) -> Ses
 }
 
 // Nothing is changed.
-fn refused(s: Session, x: Refusal) -> SessionAnswer
+pub fn refused(s: Session, x: Refusal) -> SessionAnswer
     ensures { λ r. ⌜ ((room list buf : List ℕ) → Refused x s (lending room list buf) (r .session) (r .reply) (lending room list buf)) ⌝ }
 {
     let e = SessionEnding {
@@ -164,7 +182,7 @@ fn refused(s: Session, x: Refusal) -> SessionAnswer
 }
 
 // A call that its caller has left is over.
-fn rest(s: Session) -> Session
+pub fn rest(s: Session) -> Session
     ensures { λ r. ⌜ r ≡ rested s ⌝ }
 {
     let phase = s.phase;
@@ -175,82 +193,6 @@ fn rest(s: Session) -> Session
         left: s.left,
         state: state,
     }
-}
-
-// The start of a call that is not refused.
-fn begun(
-    s: Session,
-    o: Order,
-    room: &mut [u32; 192],
-    list: &mut [u32],
-    buf: &mut [u8],
-) -> SessionAnswer
-    ensures { λ r. ⌜ StartedBy Pass s o (lending (now (room .entry)) (now (list .entry)) (now (buf .entry)))
-        (r .session) (r .reply) (lending (now (room .exit)) (now (list .exit)) (now (buf .exit))) ⌝ }
-{
-    let call = o.call;
-    let facts = session_calls::facts_of(call);
-    let kind = facts.kind;
-    let e = session_calls::engine_call(call);
-    let r = session_phase::remembered_for(kind, engine::remembered(s.state));
-    let x = engine::start(r, e, room, list, buf);
-    settled(kind, false, o.budget, o.budget, x)
-}
-
-// Whether a transport call was lost by now: `lost` tells of those before, the answer of the one that is due.
-fn lost_by(lost: bool, s: State, a: Answer) -> bool
-    ensures { λ r. ⌜ ((ws b : List ℕ) → r ≡ (lost || lostBy (stateTree s ws b) a)) ⌝ }
-{
-    let awaited = engine::awaits(s);
-    session_phase::has_lost(lost, awaited, a)
-}
-
-// One step of the call under way. No call of a session runs over words of the caller.
-fn moved(
-    s: Session,
-    kind: Kind,
-    lost: bool,
-    a: Answer,
-    room: &mut [u32; 192],
-    list: &mut [u32],
-    buf: &mut [u8],
-) -> SessionAnswer
-    ensures { λ r. ⌜ SteppedIn (Running kind lost) s a (lending (now (room .entry)) (now (list .entry)) (now (buf .entry)))
-        (r .session) (r .reply) (lending (now (room .exit)) (now (list .exit)) (now (buf .exit))) ⌝ }
-{
-    let state = s.state;
-    let by_now = lost_by(lost, state, a);
-    let left = session_phase::left_after(s.left);
-    let x = engine::step(engine::over_row(state), a, room, list, buf);
-    settled(kind, by_now, s.budget, left, x)
-}
-
-// A session that has made no call: closed, and nothing known of the target.
-pub fn fresh() -> Session
-    ensures { λ r. ⌜ (standing r ≡ closed) × (r .phase ≡ Closed) ⌝ }
-{
-    let state = engine::idle(engine::new());
-    Session {
-        phase: Phase::Closed,
-        budget: 0,
-        left: 0,
-        state: state,
-    }
-}
-
-// Whether a session is open.
-pub fn open(s: Session) -> bool
-    ensures { λ r. ⌜ r ≡ standing s .isOpen ⌝ }
-{
-    let phase = s.phase;
-    session_phase::is_open(phase)
-}
-
-// What it remembers of the target.
-pub fn remembered(s: Session) -> Remembered
-    ensures { λ r. ⌜ r ≡ standing s .remembered ⌝ }
-{
-    engine::remembered(s.state)
 }
 
 // The frame in the first eight words of a room.
@@ -277,43 +219,4 @@ pub fn frame_given(e: SessionEnding, room: &[u32; 192]) -> FrameGiven
         return FrameGiven::Frame(frame_at(room));
     }
     FrameGiven::Nothing
-}
-
-// The start of a call: its first transport call, or its ending where it makes none.
-pub fn session_start(
-    s: Session,
-    o: Order,
-    room: &mut [u32; 192],
-    list: &mut [u32],
-    buf: &mut [u8],
-) -> SessionAnswer
-    ensures { λ r. ⌜ Started s o (lending (now (room .entry)) (now (list .entry)) (now (buf .entry)))
-        (r .session) (r .reply) (lending (now (room .exit)) (now (list .exit)) (now (buf .exit))) ⌝ }
-{
-    let phase = s.phase;
-    let call = o.call;
-    let facts = session_calls::facts_of(call);
-    match session_rules::check_call(session_phase::is_open(phase), facts, buf.len()) {
-        Check::Refuse(x) => refused(rest(s), x),
-        Check::Pass => begun(s, o, room, list, buf),
-    }
-}
-
-// One step: the last answer in, the next transport call or the ending out. Refused where no call is under way.
-pub fn session_step(
-    s: Session,
-    a: Answer,
-    room: &mut [u32; 192],
-    list: &mut [u32],
-    buf: &mut [u8],
-) -> SessionAnswer
-    ensures { λ r. ⌜ Stepped s a (lending (now (room .entry)) (now (list .entry)) (now (buf .entry)))
-        (r .session) (r .reply) (lending (now (room .exit)) (now (list .exit)) (now (buf .exit))) ⌝ }
-{
-    let phase = s.phase;
-    match phase {
-        Phase::Closed => refused(s, Refusal::NoSession),
-        Phase::Open => refused(s, Refusal::NoSession),
-        Phase::Running { kind, lost } => moved(s, kind, lost, a, room, list, buf),
-    }
 }

@@ -1,7 +1,8 @@
 // The session's calls for a caller who keeps the session and lends it by `&mut`.
 ghost use mathlib.Core.Path.{_≡_};
 ghost use Rattle.session_calls.specs.Session.{lending};
-ghost use Rattle.session.specs.Step.{standing, Started, Stepped};
+ghost use Rattle.session.specs.Answer.{standing};
+ghost use Rattle.session_steps.specs.Step.{Started, Stepped};
 use session::Reply;
 use session::Session;
 use session_calls::Order;
@@ -19,7 +20,7 @@ pub fn start(
         (now (s .exit)) r (lending (now (room .exit)) (now (list .exit)) (now (buf .exit))) ⌝ }
 {
     let now = *s;
-    let r = session::session_start(now, o, room, list, buf);
+    let r = session_steps::session_start(now, o, room, list, buf);
     *s = r.session;
     r.reply
 }
@@ -35,7 +36,7 @@ pub fn step(
         (now (s .exit)) r (lending (now (room .exit)) (now (list .exit)) (now (buf .exit))) ⌝ }
 {
     let now = *s;
-    let r = session::session_step(now, a, room, list, buf);
+    let r = session_steps::session_step(now, a, room, list, buf);
     *s = r.session;
     r.reply
 }

@@ -14,7 +14,7 @@ use Rattle.target.specs.declared.Target.{Target}
 use Rattle.target.specs.declared.Act.{Act}
 use Rattle.target_line.specs.Talk.{Talk, silent, heardFirst, actNow, actsThen}
 use Rattle.session_calls.specs.Session.{ran}
-use Rattle.session.specs.Step.{standing, reported}
+use Rattle.session.specs.Answer.{standing, reported}
 use Rattle.session.specs.declared.Session.{Session}
 use Rattle.session.specs.declared.SessionEnding.{SessionEnding}
 use Rattle.session.specs.declared.SessionNext.{SessionNext}

@@ -12,7 +12,8 @@ use Rattle.wire_numbers.specs.Numbers.{numbersOf}
 use Rattle.wire_numbers.specs.declared.TransportCall.{TransportCall}
 use Rattle.session_calls.specs.Session.{Lent, Result, ran, Called}
 use Rattle.session_calls.specs.declared.Order.{Order}
-use Rattle.session.specs.Step.{standing, reported, Started, Stepped}
+use Rattle.session.specs.Answer.{standing, reported}
+use Rattle.session_steps.specs.Step.{Started, Stepped}
 use Rattle.session.specs.declared.Session.{Session}
 use Rattle.session.specs.declared.SessionEnding.{SessionEnding}
 use Rattle.session.specs.declared.SessionNext.the-variants as N

@@ -1,45 +1,12 @@
-// A caller's loop over the session: its start and its steps, as the theorems in specs/ have them.
-ghost use mathlib.Core.List.{List, [], _∷_, _++_};
+// Demand 3 of a caller's loops over start and step, proved in specs/ of what these two ensure. This function only makes it a crate.
 ghost use mathlib.Core.Path.{_≡_};
-ghost use Rattle.wire.specs.declared.Answer.{Answer};
-ghost use Rattle.wire_numbers.specs.declared.TransportCall.{TransportCall};
-ghost use Rattle.session_calls.specs.Session.{Lent, lending};
-ghost use Rattle.session_calls.specs.declared.Order.{Order};
-ghost use Rattle.session.specs.declared.Session.{Session};
-ghost use Rattle.session.specs.declared.SessionNext.the-variants.{Make};
-ghost use Rattle.session.specs.declared.Reply.{Reply};
-ghost use Rattle.session_trail.specs.Trail.{Trail};
-use session::Session;
-use session::SessionAnswer;
-use session_calls::Order;
-use wire::Answer;
+ghost use Rattle.wire.specs.Wire.{spent};
+ghost use Rattle.session_calls.specs.Session.{ran};
+ghost use Rattle.session.specs.Answer.{reported};
 
-// A start begins a trail.
-pub fn begin(
-    s: Session,
-    o: Order,
-    room: &mut [u32; 192],
-    list: &mut [u32],
-    buf: &mut [u8],
-) -> SessionAnswer
-    ensures { λ r. ⌜ Trail s o (lending (now (room .entry)) (now (list .entry)) (now (buf .entry))) [] [] (r .session) (r .reply)
-        (lending (now (room .exit)) (now (list .exit)) (now (buf .exit))) ⌝ }
+// 01's number for a call that its caller has left: Spent.
+pub fn left_as() -> u8
+    ensures { λ r. ⌜ r ≡ reported (ran spent) 0 .number ⌝ }
 {
-    session::session_start(s, o, room, list, buf)
-}
-
-// A step takes a trail one answer further, where its last reply had a transport call due.
-pub fn further(
-    s: Session,
-    a: Answer,
-    room: &mut [u32; 192],
-    list: &mut [u32],
-    buf: &mut [u8],
-) -> SessionAnswer
-    ensures { λ r. ⌜ ((s₀ : Session) (o : Order) (l₀ : Lent) (answers : List Answer) (seen : List Reply) (last : Reply) (x : TransportCall)
-        → Trail s₀ o l₀ answers seen s last (lending (now (room .entry)) (now (list .entry)) (now (buf .entry))) → last .next ≡ Make x
-        → Trail s₀ o l₀ (answers ++ a ∷ []) (seen ++ last ∷ []) (r .session) (r .reply)
-        (lending (now (room .exit)) (now (list .exit)) (now (buf .exit)))) ⌝ }
-{
-    session::session_step(s, a, room, list, buf)
+    11
 }

@@ -205,7 +205,7 @@ fn started(s: Session, a: Asked, room: &mut [u32; 192], buf: &mut [u8]) -> Sessi
     let r = record_of(a);
     let order = list_call::order_of(&r, std::num::wrapping_sub_u32(a.turns, 1));
     let mut none = [0u32; 0];
-    session::session_start(s, order, room, &mut none, &mut buf[..n])
+    session_driven::start_by(s, order, room, &mut none, &mut buf[..n])
 }
 
 // Its step with the last answer, over the same.
@@ -218,7 +218,7 @@ fn stepped(
 ) -> SessionAnswer {
     let n = fitting(len, buf.len());
     let mut none = [0u32; 0];
-    session::session_step(s, answer, room, &mut none, &mut buf[..n])
+    session_driven::step_by(s, answer, room, &mut none, &mut buf[..n])
 }
 
 fn moved(

@@ -25,7 +25,7 @@ use Rattle.engine_calls.specs.Calls.{lent, callTree}
 use Rattle.engine_calls.specs.declared.EngineCall.{EngineCall}
 use Rattle.wire.specs.declared.Remembered.{Remembered}
 use Rattle.engine_words.specs.Status.{statusAs, statusOf, ownOf, running, statusTree, CountedIn}
-use Rattle.engine_words.specs.Laws.State.{CallSized, onRow, flightTree, wordsTree, runs-tree, ends-tree, by-words}
+use Rattle.engine_words.specs.Laws.State.{CallSized, onRoom, flightTree, wordsTree, runs-tree, ends-tree, by-words}
 use Rattle.engine_words.specs.Laws.Step.{StandsFor, LentIn, StartedIn, SteppedIn}
 use Rattle.engine.specs.Step.{nextOf, bytesOf, memoryIn, awaited, Steps, Lent, Stepped}
 use Rattle.engine.specs.Laws.State.{stateTree}
@@ -133,7 +133,7 @@ even-runs n = by-runs (ltb n 2) refl
 even-own : (n : ℕ) → eqb ((n - n % 2) % 2) 1 ≡ false
 even-own n = ne-eqb ((n - n % 2) % 2) 1 (λ q. omega (arith, q))
 
-pub over-row-is : (t m c : List ℕ) → CallSized c
-    → ((ws b : List ℕ) → wordsTree t m (onRow c) ws b ≡ wordsTree t m c ws b) × (ownOf (onRow c) ≡ false)
-over-row-is t m = by-words (λ c. ((ws b : List ℕ) → wordsTree t m (onRow c) ws b ≡ wordsTree t m c ws b) × (ownOf (onRow c) ≡ false))
+pub over-room-is : (t m c : List ℕ) → CallSized c
+    → ((ws b : List ℕ) → wordsTree t m (onRoom c) ws b ≡ wordsTree t m c ws b) × (ownOf (onRoom c) ≡ false)
+over-room-is t m = by-words (λ c. ((ws b : List ℕ) → wordsTree t m (onRoom c) ws b ≡ wordsTree t m c ws b) × (ownOf (onRoom c) ≡ false))
     (λ _ _ _ _ _ _ n _ _. ((λ ws b. rw (even-runs n) refl), even-own n))

@@ -28,8 +28,8 @@ abbrev pub atOf : List ℕ → At
 atOf c = record { step = getD c 0 0; a = getD c 1 0; b = getD c 2 0; c = getD c 3 0; d = getD c 4 0; e = getD c 5 0 }
 
 -- the same, over the room
-abbrev pub onRow : List ℕ → List ℕ
-onRow c = set c 6 (getD c 6 0 - getD c 6 0 % 2)
+abbrev pub onRoom : List ℕ → List ℕ
+onRoom c = set c 6 (getD c 6 0 - getD c 6 0 % 2)
 
 abbrev pub CallSized : List ℕ → Type 0
 CallSized c = length c ≡ 9

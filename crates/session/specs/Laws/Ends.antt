@@ -1,8 +1,8 @@
 -- How the session goes by the engine's answer in numbers, and that it goes as by the tree. Serves the proofs only.
-use Prim.Native.Nat.{ℕ}
+use Prim.Native.Nat.{ℕ, _-_}
 use mathlib.Core.Bool.{Bool, true, false, cond}
 use mathlib.Core.List.{List, []}
-use mathlib.Core.Path.{_≡_, refl, ap, _∙_}
+use mathlib.Core.Path.{_≡_, refl, sym, ap, subst, _∙_}
 use lib.Dec.{eqb}
 use Rattle.wire.specs.Bytes.{handed, padded}
 use Rattle.wire.specs.Wire.{Wire, done, ask, tell, ended, spent}
@@ -11,17 +11,20 @@ use Rattle.wire_numbers.specs.Numbers.{numbersOf}
 use Rattle.wire_numbers.specs.Results.{endingOf}
 use Rattle.wire_numbers.specs.Laws.Result.{number-tells}
 use Rattle.wire_numbers.specs.declared.TransportCall.{TransportCall}
-use Rattle.engine.specs.Step.{nextOf, bytesOf}
+use Rattle.engine.specs.Step.{nextOf, bytesOf, Steps}
 use Rattle.engine.specs.declared.NextStep.{NextStep}
 use Rattle.engine.specs.declared.NextStep.the-variants as E
+use Rattle.engine.specs.declared.StepAnswer.{StepAnswer}
 use Rattle.session_phase.specs.Phase.{Now, over, due, nowOf, phaseNow, phaseDue, phaseEnded}
 use Rattle.session_phase.specs.Laws.Phase.{spent-closed}
 use Rattle.session_phase.specs.declared.Kind.{Kind}
 use Rattle.session_phase.specs.declared.Phase.{Phase}
 use Rattle.session_phase.specs.declared.Phase.the-variants as P
-use Rattle.session.specs.Step.{numbered, nextBy, bytesBy}
+use Rattle.session_calls.specs.Session.{lending}
+use Rattle.session.specs.Answer.{numbered, nextBy, bytesBy, Answers}
 use Rattle.session.specs.declared.SessionNext.{SessionNext}
 use Rattle.session.specs.declared.SessionNext.the-variants as N
+use Rattle.session.specs.declared.SessionAnswer.{SessionAnswer}
 
 abbrev pub dueUnder : ℕ → ℕ → TransportCall → SessionNext
 dueUnder left made c = cond (eqb left 0) (N.Finish (numbered (endingOf spent) made)) (N.Make c)
@@ -38,6 +41,13 @@ phaseUnder kind lost left (E.Finish e) = phaseEnded kind lost (eqb (e .number) 0
 abbrev pub bytesUnder : ℕ → NextStep → List ℕ → List ℕ
 bytesUnder left (E.Make c) bytes = cond (eqb left 0) (padded []) bytes
 bytesUnder left (E.Finish e) bytes = bytes
+
+-- the session and its reply after the engine's answer x
+abbrev pub settledBy : Kind → Bool → (limit more : ℕ) → StepAnswer → SessionAnswer
+settledBy kind lost limit more x = record {
+  session = record { phase = phaseUnder kind lost more (x .next); budget = limit; left = more; state = x .state };
+  reply = record { next = nextUnder more (limit - more) (x .next); bytes = bytesUnder more (x .next) (x .bytes) };
+}
 
 -- with a transport call due, by whether the budget is used up
 module _ (c : Call) where
@@ -76,12 +86,29 @@ module _ (left : ℕ) where
 
 -- and by what the engine told of it
 module _ (left : ℕ) (w : Wire) (n : NextStep) (h : n ≡ nextOf w) where
-  pub next-at : (made made₂ : ℕ) → made ≡ made₂ → nextUnder left made n ≡ nextBy made₂ (nowOf left w)
-  next-at made made₂ e = ap (nextUnder left made) h ∙ ap (λ (k : ℕ). nextUnder left k (nextOf w)) e ∙ next-under left made₂ w
+  next-at : (made : ℕ) → nextUnder left made n ≡ nextBy made (nowOf left w)
+  next-at made = ap (nextUnder left made) h ∙ next-under left made w
 
-  pub phase-at : (kind : Kind) (lost : Bool) → phaseUnder kind lost left n ≡ phaseNow kind lost (nowOf left w)
+  phase-at : (kind : Kind) (lost : Bool) → phaseUnder kind lost left n ≡ phaseNow kind lost (nowOf left w)
   phase-at kind lost = ap (phaseUnder kind lost left) h ∙ phase-under left kind lost w
 
-  pub bytes-at : (bytes : List ℕ) → bytes ≡ padded (bytesOf w) → bytesUnder left n bytes ≡ padded (bytesBy (nowOf left w))
+  bytes-at : (bytes : List ℕ) → bytes ≡ padded (bytesOf w) → bytesUnder left n bytes ≡ padded (bytesBy (nowOf left w))
   bytes-at bytes e =
       ap (λ (x : NextStep). bytesUnder left x bytes) h ∙ ap (bytesUnder left (nextOf w)) e ∙ bytes-under left w
+
+-- where the engine's answer reports a tree, so does the session's
+pub settles : (kind : Kind) (lost : Bool) (limit more : ℕ) (w : Wire) (x : StepAnswer) (room list buf : List ℕ) → Steps w x room buf
+    → {r : SessionAnswer} → r ≡ settledBy kind lost limit more x
+    → Answers kind lost limit more w list (r .session) (r .reply) (lending room list buf)
+settles kind lost limit more w x room list buf h e =
+    subst (λ (r : SessionAnswer). Answers kind lost limit more w list (r .session) (r .reply) (lending room list buf)) (sym e) (record {
+      next = next-at more w (x .next) (h .next) (limit - more);
+      bytes = bytes-at more w (x .next) (h .next) (x .bytes) (h .bytes);
+      phase = phase-at more w (x .next) (h .next) kind lost;
+      budget = refl;
+      left = refl;
+      memory = h .memory;
+      list = refl;
+      tree = h .tree;
+      counted = h .counted;
+    })

@@ -11,7 +11,7 @@ use denote.Triple.Table.{entered, cited}
 use Rattle.session_lent.proofs.SessionData.{lends, session, reply, room, session-ruled, reply-ruled, answer, makes, made}
 use Rattle.session_lent.proofs.ThinLaw as Law
 use Rattle.session_driven.proofs.LendLaw as LendLaw
-use Rattle.session.specs.Step.{Started}
+use Rattle.session_steps.specs.Step.{Started}
 use Rattle.session.proofs.Session as T
 use Rattle.session.proofs.SessionAnswer as S
 use Rattle.session_calls.proofs.Order as P

@@ -13,7 +13,7 @@ use mathlib.Core.Bool.{Bool}
 use mathlib.Core.Path.{_≡_}
 use Rattle.session_lent.proofs.ThinLaw as Law
 use Rattle.session_lent.proofs.LookLaw as LookLaw
-use Rattle.session.specs.Step.{standing}
+use Rattle.session.specs.Answer.{standing}
 use Rattle.session.specs.declared.Session.{Session}
 use Rattle.session.proofs.Session as T
 use Rattle.session.proofs.Session.Laws as T′

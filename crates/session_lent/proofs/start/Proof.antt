@@ -11,20 +11,20 @@ use denote.Triple.Table.{entered, cited}
 use Rattle.session_lent.proofs.SessionData.{lends, session, reply, room, session-ruled, reply-ruled, told}
 use Rattle.session_lent.proofs.ThinLaw as Law
 use Rattle.session_lent.proofs.ThinLentLaw as LentLaw
-use Rattle.session.specs.Step.{Started}
+use Rattle.session_steps.specs.Step.{Started}
 use Rattle.session.proofs.Session as T
 use Rattle.session.proofs.SessionAnswer as S
 use Rattle.session_calls.proofs.Order as P
 use Rattle.session_calls.proofs.Order.Laws as P′
-use Rattle.session.proofs.session_start as inner
-use Rattle.session.proofs.session_start.Symbol as inner-def
-use Rattle.session.proofs.session_start.Symbol.{name as #inner}
-use Rattle.session.proofs.session_start.Met as inner-thm
+use Rattle.session_steps.proofs.session_start as inner
+use Rattle.session_steps.proofs.session_start.Symbol as inner-def
+use Rattle.session_steps.proofs.session_start.Symbol.{name as #inner}
+use Rattle.session_steps.proofs.session_start.Met as inner-thm
 use Rattle.session_lent.proofs.start.Key.{name as #f}
 use Rattle.session_lent.proofs.start as f
 use Rattle.session_lent.proofs.start.Statement as stated
 use Rattle.session_lent.proofs.start.Code as code
-use Rattle.session_lent.proofs.start.Code.{calls-session·session-start as calls-inner}
+use Rattle.session_lent.proofs.start.Code.{calls-session-steps·session-start as calls-inner}
 
 abbrev order : Law.Data
 order = Law.struct-data P.the-type P′.the-laws

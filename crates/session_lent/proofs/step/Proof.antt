@@ -11,20 +11,20 @@ use denote.Triple.Table.{entered, cited}
 use Rattle.session_lent.proofs.SessionData.{lends, session, reply, room, session-ruled, reply-ruled, told}
 use Rattle.session_lent.proofs.ThinLaw as Law
 use Rattle.session_lent.proofs.ThinLentLaw as LentLaw
-use Rattle.session.specs.Step.{Stepped}
+use Rattle.session_steps.specs.Step.{Stepped}
 use Rattle.session.proofs.Session as T
 use Rattle.session.proofs.SessionAnswer as S
 use Rattle.wire.proofs.Answer as P
 use Rattle.wire.proofs.Answer.Laws as P′
-use Rattle.session.proofs.session_step as inner
-use Rattle.session.proofs.session_step.Symbol as inner-def
-use Rattle.session.proofs.session_step.Symbol.{name as #inner}
-use Rattle.session.proofs.session_step.Met as inner-thm
+use Rattle.session_steps.proofs.session_step as inner
+use Rattle.session_steps.proofs.session_step.Symbol as inner-def
+use Rattle.session_steps.proofs.session_step.Symbol.{name as #inner}
+use Rattle.session_steps.proofs.session_step.Met as inner-thm
 use Rattle.session_lent.proofs.step.Key.{name as #f}
 use Rattle.session_lent.proofs.step as f
 use Rattle.session_lent.proofs.step.Statement as stated
 use Rattle.session_lent.proofs.step.Code as code
-use Rattle.session_lent.proofs.step.Code.{calls-session·session-step as calls-inner}
+use Rattle.session_lent.proofs.step.Code.{calls-session-steps·session-step as calls-inner}
 
 abbrev answer : Law.Data
 answer = Law.enum-data P.the-type P′.the-laws

@@ -9,7 +9,7 @@ use Rattle.engine.specs.Step.{memoryIn}
 use Rattle.session_phase.specs.Phase.{loss}
 use Rattle.session_phase.specs.Laws.Phase.{or-more, or-none}
 use Rattle.session_calls.specs.Session.{lostIn}
-use Rattle.session.specs.Step.{lostBy}
+use Rattle.session_steps.specs.Step.{lostBy}
 
 abbrev pub along : Wire → List Answer → Wire
 along w [] = w

@@ -4,7 +4,7 @@ use mathlib.Core.List.{List, [], _∷_, map}
 use mathlib.Core.Path.{_≡_, refl, ap, _∙_}
 use Rattle.session_phase.specs.Phase.{isOpen}
 use Rattle.session_calls.specs.Session.{Standing, closed}
-use Rattle.session.specs.Step.{standing}
+use Rattle.session.specs.Answer.{standing}
 use Rattle.session.specs.declared.Session.{Session}
 use Rattle.agreement.specs.Demand3.{standingAfter, openTold}
 use Rattle.agreement.specs.Laws.Theorem.{open-as-told}

@@ -22,7 +22,8 @@ use Rattle.session_phase.specs.declared.Phase.{Phase}
 use Rattle.session_phase.specs.declared.Phase.the-variants as P
 use Rattle.session_rules.specs.declared.Refusal.the-variants as R
 use Rattle.session_calls.specs.Session.{Standing, Lent, lending, Called, ran}
-use Rattle.session.specs.Step.{standing, rested, nextBy, bytesBy, lostBy, Answers, Refused, SteppedIn, Stepped}
+use Rattle.session.specs.Answer.{standing, rested, nextBy, bytesBy, Answers, Refused}
+use Rattle.session_steps.specs.Step.{lostBy, SteppedIn, Stepped}
 use Rattle.session.specs.declared.Session.{Session}
 use Rattle.session.specs.declared.SessionEnding.{SessionEnding}
 use Rattle.session.specs.declared.SessionNext.{SessionNext}

@@ -23,7 +23,7 @@ use Rattle.session_phase.specs.Phase.{isOpen}
 use Rattle.session_rules.specs.declared.Check.{Check}
 use Rattle.session_rules.specs.declared.Check.the-variants.{Pass, Refuse}
 use Rattle.session_calls.specs.Session.{Standing, closed, Result, refused, ran, Called, checkOf, called, checked, sessionTree}
-use Rattle.session.specs.Step.{standing, reported}
+use Rattle.session.specs.Answer.{standing, reported}
 use Rattle.session.specs.declared.Session.{Session}
 use Rattle.session.specs.declared.SessionNext.{SessionNext}
 use Rattle.session.specs.declared.SessionNext.the-variants as N

@@ -21,7 +21,8 @@ use Rattle.session_calls.specs.Calls.{kindOf}
 use Rattle.session_calls.specs.Session.{Standing, Lent, lending, lostIn, sessionTree, refused, ran, settled, checked, checkOf, called}
 use Rattle.session_calls.specs.declared.Order.{Order}
 use Rattle.session_phase.specs.Phase.{nowOf}
-use Rattle.session.specs.Step.{standing, rested, nextBy, Answers, Refused, StartedBy, Stepped}
+use Rattle.session.specs.Answer.{standing, rested, nextBy, Answers, Refused}
+use Rattle.session_steps.specs.Step.{StartedBy, Stepped}
 use Rattle.session.specs.declared.Session.{Session}
 use Rattle.session.specs.declared.SessionEnding.{SessionEnding}
 use Rattle.session.specs.declared.SessionNext.the-variants as N

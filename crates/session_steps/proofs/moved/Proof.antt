@@ -1,10 +1,11 @@
 -- The engine's step reports the tree that follows the answer. Whether a call was lost by now is what was known before or what the
 -- answer shows.
 use mathlib.Core.Path.{refl}
-use Rattle.session.specs.Laws.Starts.{steps-room, answers-as}
+use Rattle.session.specs.Laws.Ends.{settles}
+use Rattle.session_steps.specs.Laws.Starts.{steps-room, answers-as}
 use borrow.Author.Needs.{needs}
-use Rattle.session.proofs.moved.Statement.{statement}
-use Rattle.session.proofs.moved.Tie as tie
+use Rattle.session_steps.proofs.moved.Statement.{statement}
+use Rattle.session_steps.proofs.moved.Tie as tie
 
 pub moved-spec : {M : Type 1} → statement M
 moved-spec =
@@ -13,5 +14,5 @@ moved-spec =
     (λ c. search needs)
     (λ c. let stepped = c .before .before .before .before .before in let over = stepped .before .before .before .before in
     let less = over .before in let lost = less .before in
-    let x = steps-room (lost .before .before .before .before .args .s .state) (over .over-row .ensures) (stepped .step .ensures) in
-    answers-as refl (lost .lost-by .ensures _ _) (less .left-after .ensures) (x .kept) (c .settled .ensures _ _ _ _ (x .steps))))
+    let x = steps-room (lost .before .before .before .before .args .s .state) (over .over-room .ensures) (stepped .step .ensures) in
+    answers-as refl (lost .lost-by .ensures _ _) (less .left-after .ensures) (x .kept) (settles _ _ _ _ _ _ _ _ _ (x .steps) (c .settled .ensures))))

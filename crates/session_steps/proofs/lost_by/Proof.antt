@@ -3,8 +3,8 @@ use mathlib.Core.Bool.{Bool, _&&_, _||_}
 use mathlib.Core.Path.{ap, _∙_}
 use Rattle.session_phase.specs.Phase.{loss}
 use borrow.Author.Needs.{needs}
-use Rattle.session.proofs.lost_by.Statement.{statement}
-use Rattle.session.proofs.lost_by.Tie as tie
+use Rattle.session_steps.proofs.lost_by.Statement.{statement}
+use Rattle.session_steps.proofs.lost_by.Tie as tie
 
 pub lost-by-spec : {M : Type 1} → statement M
 lost-by-spec =

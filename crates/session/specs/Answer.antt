@@ -1,13 +1,12 @@
--- What a session answers to a start and to a step, and how it stands then: for every session, order, answer and everything lent.
+-- How a session stands, and what it answers: a reply that reports the tree of a call under a budget, and a refusal.
 use Prim.Native.Nat.{ℕ, _-_}
-use mathlib.Core.Bool.{Bool, false, _&&_, _||_, cond}
+use mathlib.Core.Bool.{Bool, cond}
 use mathlib.Core.List.{List, []}
 use mathlib.Core.Path.{_≡_}
 use lib.Dec.{eqb}
 use lib.ListN.{getD}
 use Rattle.wire.specs.Bytes.{handed, padded}
-use Rattle.wire.specs.Wire.{Wire, memoryOf, follow, Ending}
-use Rattle.wire.specs.declared.Answer.{Answer}
+use Rattle.wire.specs.Wire.{Wire, memoryOf}
 use Rattle.wire_numbers.specs.Results.{endingOf}
 use Rattle.wire_numbers.specs.Numbers.{numbersOf}
 use Rattle.wire_numbers.specs.declared.CallEnding.{CallEnding}
@@ -15,19 +14,12 @@ use Rattle.wire_memap.specs.Laws.Doing.{rememberedOf}
 use Rattle.call_core.specs.declared.CallFrame.{CallFrame}
 use Rattle.engine_words.specs.Status.{statusOf, CountedIn}
 use Rattle.engine.specs.Laws.State.{stateTree}
-use Rattle.engine.specs.Step.{memoryIn, awaited}
-use Rattle.session_phase.specs.Phase.{loss, Now, over, due, nowOf, isOpen, phaseNow, phaseLeft}
+use Rattle.engine.specs.Step.{memoryIn}
+use Rattle.session_phase.specs.Phase.{Now, over, due, nowOf, isOpen, phaseNow, phaseLeft}
 use Rattle.session_phase.specs.declared.Kind.{Kind}
-use Rattle.session_phase.specs.declared.Phase.{Phase}
-use Rattle.session_phase.specs.declared.Phase.the-variants as P
 use Rattle.session_rules.specs.Refusals.{refusalNumber}
 use Rattle.session_rules.specs.declared.Refusal.{Refusal}
-use Rattle.session_rules.specs.declared.Refusal.the-variants as R
-use Rattle.session_rules.specs.declared.Check.{Check}
-use Rattle.session_rules.specs.declared.Check.the-variants.{Pass, Refuse}
-use Rattle.session_calls.specs.Calls.{kindOf}
-use Rattle.session_calls.specs.Session.{Standing, Lent, sessionTree, checkOf, Result, refused, ran}
-use Rattle.session_calls.specs.declared.Order.{Order}
+use Rattle.session_calls.specs.Session.{Standing, Lent, Result, refused, ran}
 use Rattle.session.specs.declared.Session.{Session}
 use Rattle.session.specs.declared.SessionEnding.{SessionEnding}
 use Rattle.session.specs.declared.SessionNext.{SessionNext}
@@ -89,27 +81,3 @@ pub record Refused (x : Refusal) (s₀ : Session) (l₀ : Lent) (s : Session) (r
 -- a call that its caller has left is over with the next start, also with one that is refused; nothing else changes by it
 abbrev pub rested : Session → Session
 rested s = record { phase = phaseLeft (s .phase); budget = s .budget; left = s .left; state = s .state }
-
--- what a start answers: session, order and what is lent, then session, reply and what was lent afterwards
-abbrev pub StartedBy : Check → Session → Order → Lent → Session → Reply → Lent → Type 0
-StartedBy (Refuse x) s₀ o l₀ s r l = Refused x (rested s₀) l₀ s r l
-StartedBy Pass s₀ o l₀ s r l =
-    Answers (kindOf (o .call)) false (o .budget) (o .budget) (sessionTree (standing s₀) (o .call) l₀) (l₀ .list) s r l
-
-abbrev pub Started : Session → Order → Lent → Session → Reply → Lent → Type 0
-Started s₀ o l₀ s r l = StartedBy (checkOf (standing s₀) (o .call) l₀) s₀ o l₀ s r l
-
--- whether an answer shows that the transport call due was lost; that of an ignored ABORT shows nothing
-abbrev pub lostBy : Wire → Answer → Bool
-lostBy w a = awaited w && loss a
-
--- what a step answers; where no call is under way it is refused as NoSession
-abbrev pub SteppedIn : Phase → Session → Answer → Lent → Session → Reply → Lent → Type 0
-SteppedIn P.Closed s₀ a l₀ s r l = Refused R.NoSession s₀ l₀ s r l
-SteppedIn P.Open s₀ a l₀ s r l = Refused R.NoSession s₀ l₀ s r l
-SteppedIn (P.Running kind lost) s₀ a l₀ s r l =
-    Answers kind (lost || lostBy (stateTree (s₀ .state) (l₀ .room) (l₀ .buf)) a) (s₀ .budget) (s₀ .left - 1)
-    (follow (stateTree (s₀ .state) (l₀ .room) (l₀ .buf)) a) (l₀ .list) s r l
-
-abbrev pub Stepped : Session → Answer → Lent → Session → Reply → Lent → Type 0
-Stepped s₀ a l₀ s r l = SteppedIn (s₀ .phase) s₀ a l₀ s r l

@@ -1,10 +1,10 @@
 -- The check that the code makes is the one of the definition. Refused, nothing is changed but that a call which was left is over; passed,
 -- the call is begun.
 use Rattle.session_calls.specs.Session.{lending}
-use Rattle.session.specs.Laws.Starts.{refused-as, started-by}
+use Rattle.session_steps.specs.Laws.Starts.{refused-as, started-by}
 use borrow.Author.Needs.{needs}
-use Rattle.session.proofs.session_start.Statement.{statement}
-use Rattle.session.proofs.session_start.Tie as tie
+use Rattle.session_steps.proofs.session_start.Statement.{statement}
+use Rattle.session_steps.proofs.session_start.Tie as tie
 
 pub session-start-spec : {M : Type 1} → statement M
 session-start-spec =

@@ -1,8 +1,8 @@
 -- What a step ensures is one answer more of a trail.
 use Rattle.session_trail.specs.Trail.{more}
 use borrow.Author.Needs.{needs}
-use Rattle.session_trail.proofs.further.Statement.{statement}
-use Rattle.session_trail.proofs.further.Tie as tie
+use Rattle.session_loop.proofs.further.Statement.{statement}
+use Rattle.session_loop.proofs.further.Tie as tie
 
 pub further-spec : {M : Type 1} → statement M
 further-spec =

@@ -26,9 +26,10 @@ use Rattle.session_calls.specs.Laws.Plan.{alone-tree}
 use Rattle.session_calls.specs.declared.SessionCall.{SessionCall}
 use Rattle.session_calls.specs.declared.SessionCall.the-variants as S
 use Rattle.session_calls.specs.declared.Order.{Order}
-use Rattle.session.specs.Step.{standing, Answers, Refused, Started, StartedBy}
+use Rattle.session.specs.Answer.{standing, Answers, Refused}
+use Rattle.session_steps.specs.Step.{Started, StartedBy}
 use Rattle.session.specs.declared.Session.{Session}
 use Rattle.session.specs.declared.Reply.{Reply}
 
 -- no call of the session runs over the caller's list
 over-room : (c : SessionCall) → lent (engineCall c) ≡ false

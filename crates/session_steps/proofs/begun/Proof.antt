@@ -3,10 +3,11 @@ use mathlib.Core.Path.{refl, ap, _∙_}
 use Rattle.wire.specs.declared.Remembered.{Remembered}
 use Rattle.session_phase.specs.Phase.{rememberedFor}
 use Rattle.session_rules.specs.declared.Facts.{Facts}
-use Rattle.session.specs.Laws.Starts.{starts, answers-as}
+use Rattle.session.specs.Laws.Ends.{settles}
+use Rattle.session_steps.specs.Laws.Starts.{starts, answers-as}
 use borrow.Author.Needs.{needs}
-use Rattle.session.proofs.begun.Statement.{statement}
-use Rattle.session.proofs.begun.Tie as tie
+use Rattle.session_steps.proofs.begun.Statement.{statement}
+use Rattle.session_steps.proofs.begun.Tie as tie
 
 pub begun-spec : {M : Type 1} → statement M
 begun-spec =
@@ -19,4 +20,4 @@ begun-spec =
     let x = starts (t .s) (t .o .call) (t .room .now) (t .list .now) (t .buf .now) kind (engine .engine-call .ensures)
     (known .remembered-for .ensures ∙ ap (λ (r : Remembered). rememberedFor (table .facts-of .result .kind) r) (held .remembered .ensures))
     (started .start .ensures) in
-    answers-as kind refl refl (x .kept) (c .settled .ensures _ _ _ _ (x .steps))))
+    answers-as kind refl refl (x .kept) (settles _ _ _ _ _ _ _ _ _ (x .steps) (c .settled .ensures))))

@@ -1,7 +1,7 @@
 -- Where no call is under way the step is refused. Else it is the step of that call.
 use borrow.Author.Needs.{needs}
-use Rattle.session.proofs.session_step.Statement.{statement}
-use Rattle.session.proofs.session_step.Tie as tie
+use Rattle.session_steps.proofs.session_step.Statement.{statement}
+use Rattle.session_steps.proofs.session_step.Tie as tie
 
 pub session-step-spec : {M : Type 1} → statement M
 session-step-spec =
