@@ -143,40 +143,13 @@ fn remembered_after(c: Change, r: Remembered) -> Remembered
                 apsel: a,
             }
         }
-        Change::StoreWords { at: _, n: _ } => r,
-        Change::StorePart {
-            at: _,
-            skip: _,
-            count: _,
-            word: _,
-        } => r,
-        Change::LoadWords { at: _, n: _ } => r,
-        Change::Patch {
-            at: _,
-            skip: _,
-            count: _,
-            word: _,
-        } => r,
-        Change::Put { at: _, word: _ } => r,
-        Change::Registers {
-            r0: _,
-            r1: _,
-            r2: _,
-            r3: _,
-            sp: _,
-            lr: _,
-            pc: _,
-        } => r,
-        Change::Frame {
-            r0: _,
-            r1: _,
-            r2: _,
-            r3: _,
-            sp: _,
-            lr: _,
-            pc: _,
-            xpsr: _,
-        } => r,
+        Change::StoreWords { .. } => r,
+        Change::StorePart { .. } => r,
+        Change::LoadWords { .. } => r,
+        Change::Patch { .. } => r,
+        Change::Put { .. } => r,
+        Change::Registers { .. } => r,
+        Change::Frame { .. } => r,
     }
 }
 

@@ -57,7 +57,7 @@ pub enum FrameGiven {
 
 // A session that has made no call: closed, and nothing known of the target.
 pub fn fresh() -> Session
-    ensures { λ r. ⌜ (standing r ≡ closed) × (r .phase ≡ Closed) ⌝ }
+    ensures { λ r. ⌜ (standing r ≡ closed) × (r .phase ≡ Closed) × (r .budget ≡ 0) × (r .left ≡ 0) ⌝ }
 {
     let state = engine::idle(engine::new());
     Session {
