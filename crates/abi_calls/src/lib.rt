@@ -1,4 +1,6 @@
 // The calls as they come from another language: 01's number, and words for arguments. The engine's 35, and those that a session admits.
+#![tactic(auto)]
+
 ghost use Rattle.std.specs.Prelude.{◌≡◌, ◌≤◌, ◌%◌, get_or};
 ghost use Rattle.abi_calls.specs.Given.{takes as Given·takes, narrow as Given·narrow, function_of, frame_of, engine_call_of};
 ghost use Rattle.abi_calls.specs.Given.{connect_admitted, memory_admitted, call_admitted, session_call_of};
@@ -12,14 +14,14 @@ use engine_calls::EngineCall;
 use session_calls::SessionCall;
 
 // The engine's call that number and words stand for, or that there is none.
-#[derive(Drop)]
+#[derive(Clone, Copy)]
 pub enum Given {
     Bad,
     Asked(EngineCall),
 }
 
 // The same for a call of the session.
-#[derive(Drop)]
+#[derive(Clone, Copy)]
 pub enum Ordered {
     Bad,
     Asked(SessionCall),

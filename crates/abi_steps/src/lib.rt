@@ -1,4 +1,6 @@
 // An engine in the 64 words that another language lends, updated in place: its start and step, and what they tell.
+#![tactic(auto)]
+
 ghost use Rattle.std.specs.Prelude.{◌≡◌, length};
 ghost use Rattle.wire.specs.declared.Answer.TheVariants.{Good};
 ghost use Rattle.wire_transfer.specs.Laws.Flight.{transfer_of};

@@ -1,5 +1,7 @@
 // A loop in C or Rust over the exported functions is a caller's loop over the session: proved in specs/ of what these functions ensure.
 // This function only makes it a crate.
+#![tactic(auto)]
+
 ghost use Rattle.std.specs.Prelude.{◌≡◌, get_or};
 ghost use Rattle.abi_words.specs.Numbers.{end_numbers};
 

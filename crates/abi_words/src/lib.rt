@@ -1,4 +1,6 @@
 // A session, an engine and their replies as the words and numbers of another language: any words are some session.
+#![tactic(auto)]
+
 ghost use Rattle.std.specs.Prelude.{◌≡◌, length};
 ghost use Rattle.std.proofs.lemmas.List.Edits.{sets};
 ghost use Rattle.wire_numbers.specs.Numbers.{numbers_of};

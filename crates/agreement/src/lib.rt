@@ -1,4 +1,6 @@
 // Demand 3, proved of the definitions in specs/. This function only makes it a crate.
+#![tactic(auto)]
+
 ghost use Rattle.std.specs.Prelude.{◌≡◌};
 
 // The SELECT that claims nothing.

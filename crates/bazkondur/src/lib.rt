@@ -1,4 +1,6 @@
 // What C and Rust link: the session, and the engine by itself, in words and numbers (include/bazkondur.h).
+#![tactic(auto)]
+
 ghost use Rattle.std.specs.Prelude.{true, ◌≡◌, length};
 ghost use Rattle.wire.specs.declared.Answer.TheVariants.{Good};
 ghost use Rattle.wire_numbers.specs.Log.{answer_at};

@@ -1,5 +1,7 @@
 // The engine for a benchmark in another language, in numbers and slices: six calls on a new engine, each run over answers that are
 // given, or started and stepped, the caller making the transport calls.
+#![tactic(auto)]
+
 ghost use Rattle.std.specs.Prelude.{◌≡◌};
 ghost use Rattle.wire_numbers.specs.Log.{answer_of};
 ghost use Rattle.engine_words.specs.Laws.Step.{TriesIn};

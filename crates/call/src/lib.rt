@@ -3,6 +3,8 @@
 // Ported from arm-debug/src/lib.rs of ciniml/rust-dap.
 
 // What a call changes besides its transport calls: what is remembered, the words that it runs over, the caller's buffer.
+#![tactic(auto)]
+
 ghost use Rattle.std.specs.Prelude.{[], ◌∷◌, ◌≡◌, ◌≤◌, set};
 ghost use Rattle.std.proofs.lemmas.List.Edits.{sets};
 ghost use Rattle.wire.specs.Wire.{memory_of};
@@ -15,7 +17,7 @@ use wire_memap::Op;
 
 // `at` is a place in the caller's buffer, of `Put` one in the room; `skip` and `count` are bytes of a word.
 // `Registers`: what a function starts with, in the room's places 8 to 15. `Frame`: a call frame, in places 0 to 7.
-#[derive(Drop)]
+#[derive(Clone, Copy)]
 pub enum Change {
     Nothing,
     New,
@@ -71,14 +73,14 @@ pub enum Change {
 const XPSR_THUMB: u32 = 0x01000000;
 
 // What comes next in a call: an operation, or its end.
-#[derive(Drop)]
+#[derive(Clone, Copy)]
 pub enum Next {
     Do(Op),
     End(Outcome),
 }
 
 // What a call asks for: a change, and then an operation or its end.
-#[derive(Drop)]
+#[derive(Clone, Copy)]
 pub struct Asks {
     pub change: Change,
     pub at: At,

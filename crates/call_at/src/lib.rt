@@ -1,9 +1,11 @@
 // Where a call stands, in numbers: which of its operations is in flight, and what it goes on with.
+#![tactic(auto)]
+
 ghost use Rattle.std.specs.Prelude.{◌≡◌, eqb};
 
 // Which operation of a call is in flight: a number for group and phase, and what it goes on with. 0: its outcome is the call's.
 // A group of calls gives the phase alone, below 1024, and looks at nothing above it; who calls the groups puts the group there.
-#[derive(Drop)]
+#[derive(Clone, Copy)]
 pub struct At {
     pub step: u32,
     pub a: u32,

@@ -3,6 +3,8 @@
 // Ported from arm-debug/src/lib.rs of ciniml/rust-dap.
 
 // Words of the row and bytes of the caller's buffer, from one to the other.
+#![tactic(auto)]
+
 ghost use Rattle.std.specs.Prelude.{◌≡◌, ◌+◌, ◌*◌, ◌^◌, ◌<◌, min, length, set, get_or, drop};
 ghost use Rattle.wire.specs.Bytes.{le_bytes, le_word, put_word};
 ghost use Rattle.call_bytes.specs.Bytes.{store_words, store_part, load_words, patch_word, from_place};

@@ -3,6 +3,8 @@
 // Ported from arm-debug/src/lib.rs of ciniml/rust-dap.
 
 // Calls 1 to 5: connecting to a target. Each function says what a connect asks for next; none of them touches the line.
+#![tactic(auto)]
+
 ghost use Rattle.std.specs.Prelude.{◌≡◌};
 ghost use Rattle.call.specs.Laws.Asks.{asks, keep_some, op_then};
 ghost use Rattle.call.specs.Job.{ends};
@@ -14,7 +16,7 @@ use call_at::At;
 use wire::{ArmError, Call, Outcome, Pattern};
 use wire_memap::Op;
 
-#[derive(Drop)]
+#[derive(Clone, Copy)]
 pub enum ConnectCall {
     ConnectMultidrop(u32),
     ProbeSwd,
@@ -24,7 +26,7 @@ pub enum ConnectCall {
 }
 
 // What a DPIDR is read for.
-#[derive(Drop)]
+#[derive(Clone, Copy)]
 pub enum How {
     Probe,
     Swd,
@@ -32,7 +34,7 @@ pub enum How {
 }
 
 // Which operation of a connect is in flight. `Line`: a call that is no transfer, with `left` more after it.
-#[derive(Drop)]
+#[derive(Clone, Copy)]
 pub enum ConnectAt {
     Line { how: How, left: u32, targetsel: u32 },
     Dpidr(How),

@@ -4,6 +4,8 @@
 
 // Calls 15 to 25: the core's run state and registers, the bootrom's table, and functions called on the core. Each function
 // says what a call asks for next.
+#![tactic(auto)]
+
 ghost use Rattle.std.specs.Prelude.{◌≡◌, ◌-◌, ◌/◌, ◌%◌, ◌<◌, eqb, get_or};
 ghost use Rattle.wire_memap.specs.declared.Op.TheVariants.{ReadWord, WriteWord};
 ghost use Rattle.call.specs.Job.{ends, attempt, or_fail};
@@ -22,7 +24,7 @@ use wire::{ArmError, Outcome};
 use wire_memap::Op;
 
 // A function on the target, its arguments, its stack, and the place in memory that it returns to.
-#[derive(Drop)]
+#[derive(Clone, Copy)]
 pub struct Function {
     pub fn_addr: u32,
     pub a0: u32,
@@ -34,7 +36,7 @@ pub struct Function {
 }
 
 // The registers that a function may change, as call 23 leaves them and 24 restores them.
-#[derive(Drop)]
+#[derive(Clone, Copy)]
 pub struct CallFrame {
     pub r0: u32,
     pub r1: u32,
@@ -47,7 +49,7 @@ pub struct CallFrame {
 }
 
 // Call 23 leaves its frame in the room's places 0 to 7. The last number of 24 and 25 is their polls.
-#[derive(Drop)]
+#[derive(Clone, Copy)]
 pub enum CoreCall {
     DebugEnable,
     Halt,
@@ -63,7 +65,7 @@ pub enum CoreCall {
 }
 
 // What an access asks for.
-#[derive(Drop)]
+#[derive(Clone, Copy)]
 struct AccessAsks {
     at: AccessAt,
     next: Next,

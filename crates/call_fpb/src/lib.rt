@@ -3,6 +3,8 @@
 // Ported from arm-debug/src/lib.rs of ciniml/rust-dap.
 
 // Calls 26 to 28: hardware breakpoints. Each function says what a call asks for next; none of them touches the line.
+#![tactic(auto)]
+
 ghost use Rattle.std.specs.Prelude.{◌≡◌, ◌-◌};
 ghost use Rattle.call.specs.Laws.Asks.{asks, op_then};
 ghost use Rattle.call.specs.Job.{ends};
@@ -17,7 +19,7 @@ use call_places::{FpbAt, Free};
 use wire::Outcome;
 use wire_memap::Op;
 
-#[derive(Drop)]
+#[derive(Clone, Copy)]
 pub enum FpbCall {
     HwBreakpointSet(u32),
     HwBreakpointClear(u32),
@@ -25,7 +27,7 @@ pub enum FpbCall {
 }
 
 // What a comparator holds for a breakpoint, if there can be one.
-#[derive(Drop)]
+#[derive(Clone, Copy)]
 pub enum CompValue {
     None,
     Some(u32),

@@ -3,6 +3,8 @@
 // Ported from arm-debug/src/lib.rs of ciniml/rust-dap.
 
 // Calls 6 to 14: raw registers of an access port, words and memory. Each function says what a call asks for next.
+#![tactic(auto)]
+
 ghost use Rattle.std.specs.Prelude.{true, ◌≡◌, ◌-◌, ◌*◌, ◌%◌, min, leb};
 ghost use Rattle.call.specs.Job.{ends, just};
 ghost use Rattle.call.specs.Laws.Asks.{asks, keep_some, op_then};
@@ -20,7 +22,7 @@ use wire::{ArmError, Outcome};
 use wire_memap::Op;
 
 // Words and bytes are those that the caller lends.
-#[derive(Drop)]
+#[derive(Clone, Copy)]
 pub enum MemoryCall {
     SetApsel(u8),
     ApRegRead(u8),
@@ -35,7 +37,7 @@ pub enum MemoryCall {
 
 // A turn of read_mem or write_mem: `left` bytes to go up to the address `stop`, of `len` in all; `size` is this turn's
 // words, or bytes where it moves a part of a word.
-#[derive(Drop)]
+#[derive(Clone, Copy)]
 pub struct Mem {
     pub stop: u32,
     pub len: u32,
@@ -45,7 +47,7 @@ pub struct Mem {
 
 // What a turn's operation does: words or a part of one are read, words are written, or the word around a part is read and
 // then written back.
-#[derive(Drop)]
+#[derive(Clone, Copy)]
 pub enum TurnStep {
     ReadRun,
     ReadPart,
@@ -55,7 +57,7 @@ pub enum TurnStep {
 }
 
 // Which operation of a call is in flight. `Whole`: its outcome is the call's.
-#[derive(Drop)]
+#[derive(Clone, Copy)]
 pub enum MemoryAt {
     Whole,
     Turn { step: TurnStep, mem: Mem },

@@ -3,6 +3,8 @@
 // Ported from arm-debug/src/lib.rs of ciniml/rust-dap.
 
 // Calls 29 to 35: protection, mass erase and flash of Nordic chips. Each function says what a call asks for next; none of them touches the line.
+#![tactic(auto)]
+
 ghost use Rattle.std.specs.Prelude.{◌≡◌, ◌-◌, ◌*◌, ◌+◌, ◌/◌, ◌%◌, ◌<◌};
 ghost use Rattle.wire_memap.specs.Words.{tar_run};
 ghost use Rattle.call.specs.Laws.Asks.{asks, op_then};
@@ -22,7 +24,7 @@ use wire::{ArmError, Outcome};
 use wire_memap::Op;
 
 // The words that are programmed are those that the caller lends.
-#[derive(Drop)]
+#[derive(Clone, Copy)]
 pub enum NrfCall {
     Nrf52ApprotectStatus,
     Nrf52EraseAll(u32),

@@ -1,4 +1,6 @@
 // Where a call stands, and the same in numbers: calls of the core, of breakpoints, of Nordic chips.
+#![tactic(auto)]
+
 ghost use Rattle.std.specs.Prelude.{◌≡◌, ◌/◌, ◌%◌, ◌<◌, eqb};
 ghost use Rattle.call_places.specs.declared.CoreAt.TheVariants.{Access};
 ghost use Rattle.call_places.specs.declared.FpbAt.TheVariants.{Seek};
@@ -11,7 +13,7 @@ use call_at::At;
 use wire::Outcome;
 
 // What DHCSR is read for: the core's halt, or a register that is being read or written.
-#[derive(Drop)]
+#[derive(Clone, Copy)]
 pub enum Wait {
     Halt,
     Read,
@@ -20,7 +22,7 @@ pub enum Wait {
 
 // Which operation of an access to the core is in flight. `Whole`: its outcome is the access's. `Asked`: a write that a wait
 // follows. `Data`: DCRDR's write, for that register.
-#[derive(Drop)]
+#[derive(Clone, Copy)]
 pub enum AccessAt {
     Whole,
     Halted,
@@ -30,7 +32,7 @@ pub enum AccessAt {
 }
 
 // An entry of the bootrom's table, with `left` entries from it on.
-#[derive(Drop)]
+#[derive(Clone, Copy)]
 pub struct Search {
     pub want: u32,
     pub table: u16,
@@ -38,7 +40,7 @@ pub struct Search {
 }
 
 // Which read of a search is in flight: of the pointers, of an entry in one word, or of the first or second of its two words.
-#[derive(Drop)]
+#[derive(Clone, Copy)]
 pub enum FindStep {
     Table,
     Entry,
@@ -47,7 +49,7 @@ pub enum FindStep {
 }
 
 // How a function's call goes on: `finish` with its second half, within so many polls.
-#[derive(Drop)]
+#[derive(Clone, Copy)]
 pub struct Plan {
     pub trampoline: u32,
     pub finish: bool,
@@ -56,7 +58,7 @@ pub struct Plan {
 
 // Which operation of a function's first half is in flight, besides the registers: the trampoline's write, DHCSR's two
 // writes, or a look whether the core runs.
-#[derive(Drop)]
+#[derive(Clone, Copy)]
 pub enum RunStep {
     Planted,
     Masked,
@@ -65,7 +67,7 @@ pub enum RunStep {
 }
 
 // What an access is for: the call itself, or a part of a function's call; `left` registers from its own on.
-#[derive(Drop)]
+#[derive(Clone, Copy)]
 pub enum Then {
     End,
     Save { left: u32, plan: Plan },
@@ -76,7 +78,7 @@ pub enum Then {
 
 // Which operation of a call is in flight. `Wait`: a poll for a function's end, `left` more after it. `Over`: the writes of
 // DHCSR that follow, whatever came of the wait.
-#[derive(Drop)]
+#[derive(Clone, Copy)]
 pub enum CoreAt {
     Access {
         at: AccessAt,
@@ -100,7 +102,7 @@ pub enum CoreAt {
 }
 
 // An access or an outcome in numbers: which one it is, and the value that it has.
-#[derive(Drop)]
+#[derive(Clone, Copy)]
 struct Numbers {
     kind: u32,
     n: u32,
@@ -350,7 +352,7 @@ pub fn unpack_core(at: At) -> CoreAt
 }
 
 // The first free comparator that was found.
-#[derive(Drop)]
+#[derive(Clone, Copy)]
 pub enum Free {
     Nowhere,
     At(u8),
@@ -358,7 +360,7 @@ pub enum Free {
 
 // Which operation of a call is in flight. `left` of `n` comparators are still to come, the one in flight among them.
 // `Write`: the last operation of a call that then answers yes.
-#[derive(Drop)]
+#[derive(Clone, Copy)]
 pub enum FpbAt {
     SetCtrl(u32),
     Enable {
@@ -489,14 +491,14 @@ pub fn unpack_fpb(at: At) -> FpbAt
     }
 }
 
-#[derive(Drop)]
+#[derive(Clone, Copy)]
 pub enum Chip {
     Nrf52,
     Nrf54,
 }
 
 // `left` of `len` words to go, up to the address `stop`; each wait has `polls` reads.
-#[derive(Drop)]
+#[derive(Clone, Copy)]
 pub struct Program {
     pub stop: u32,
     pub len: u32,
@@ -505,7 +507,7 @@ pub struct Program {
 }
 
 // What is done next with the flash: a page is erased, words are written, or it is closed for writing.
-#[derive(Drop)]
+#[derive(Clone, Copy)]
 pub enum Flash {
     Page { page: u32, polls: u32 },
     Words(Program),
@@ -514,7 +516,7 @@ pub enum Flash {
 
 // What waits for the flash before `then`. `Settle`: a write, after which so many reads wait for READY. `Wait`: one of these, with
 // so many more. `Next`: a write with no wait after it.
-#[derive(Drop)]
+#[derive(Clone, Copy)]
 pub enum FlashStep {
     Settle(u32),
     Wait(u32),
@@ -522,7 +524,7 @@ pub enum FlashStep {
 }
 
 // Which operation of a call is in flight. `Last`: the call's last write.
-#[derive(Drop)]
+#[derive(Clone, Copy)]
 pub enum NrfAt {
     Idr,
     Status(bool),
@@ -539,14 +541,14 @@ pub enum NrfAt {
 }
 
 // A step of the flash in numbers: which one it is, and its count.
-#[derive(Drop)]
+#[derive(Clone, Copy)]
 struct StepNumbers {
     kind: u32,
     count: u32,
 }
 
 // What is done next with the flash, in numbers.
-#[derive(Drop)]
+#[derive(Clone, Copy)]
 struct FlashNumbers {
     kind: u32,
     b: u32,

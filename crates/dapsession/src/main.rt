@@ -1,5 +1,7 @@
 // Reads a list of session calls from standard input, judges it, and runs it over the model target and the line; prints as it goes. What
 // breaks any rule prints 01's Script and nothing else.
+#![tactic(auto)]
+
 ghost use Rattle.std.specs.Prelude.{◌≡◌, ◌≤◌, length};
 
 use libc::STDIN_FILENO;
@@ -17,7 +19,7 @@ const START_FUNCTION: u8 = 23;
 const SPENT: u8 = 11;
 
 // Where a list stands: its session, the number of the next call, and the place for the next line.
-#[derive(Drop)]
+#[derive(Clone, Copy)]
 pub struct World {
     pub session: Session,
     pub calls: u32,
@@ -25,7 +27,7 @@ pub struct World {
 }
 
 // What the session answered last, and the place for the next line.
-#[derive(Drop)]
+#[derive(Clone, Copy)]
 pub struct Ran {
     pub now: SessionAnswer,
     pub out: usize,

@@ -1,5 +1,7 @@
 // The engine's calls, step by step: a step takes the last answer and what the caller lends, and answers with the next
 // transport call or the call's ending.
+#![tactic(auto)]
+
 ghost use Rattle.std.specs.Prelude.{false, List, ◌≡◌, ℕ};
 ghost use Rattle.wire_transfer.specs.Laws.Flight.{transfer_of};
 ghost use Rattle.wire_memap.specs.Laws.Doing.{remembered_of};
@@ -16,7 +18,7 @@ use wire::{Answer, Call, Outcome, Remembered};
 use wire_numbers::{CallEnding, TransportCall};
 
 // A call, under way or ended, and what is remembered: the words of its transport call, of its operation and its own.
-#[derive(Drop)]
+#[derive(Clone, Copy)]
 pub struct State {
     pub transfer: [u32; 7],
     pub op: [u32; 12],
@@ -24,14 +26,14 @@ pub struct State {
 }
 
 // The transport call to make next, or how the call ended.
-#[derive(Drop)]
+#[derive(Clone, Copy)]
 pub enum NextStep {
     Make(TransportCall),
     Finish(CallEnding),
 }
 
 // What a start or a step answers. `bytes`: those of a sequence, as many as its call says.
-#[derive(Drop)]
+#[derive(Clone, Copy)]
 pub struct StepAnswer {
     pub next: NextStep,
     pub state: State,

@@ -1,5 +1,7 @@
 // One enum of all 35 calls. What a call asks for first and after each operation, over the groups; which words it runs over,
 // and the frame that it leaves.
+#![tactic(auto)]
+
 ghost use Rattle.std.specs.Prelude.{cond, ◌≡◌, ◌<◌};
 ghost use Rattle.engine_calls.specs.Calls.{job_of, lent_words, lent_flash, lent, frame_of, core_leaves, leaves_frame, leave};
 ghost use Rattle.engine_calls.specs.Laws.After.{call_after, asks_job, in_group};
@@ -14,7 +16,7 @@ use call_nrf::NrfCall;
 use wire::Outcome;
 
 // The calls and their arguments; words and bytes are those that the caller lends.
-#[derive(Drop)]
+#[derive(Clone, Copy)]
 pub enum EngineCall {
     Connect(ConnectCall),
     Memory(MemoryCall),

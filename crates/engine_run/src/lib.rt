@@ -1,4 +1,6 @@
 // A whole call of the engine over a budget of answers: a loop over its steps.
+#![tactic(auto)]
+
 ghost use Rattle.std.specs.Prelude.{Bool, List, ◌≡◌, ℕ, ◌<◌, ◌≤◌, length, take};
 ghost use Rattle.wire.specs.Wire.{Wire, play};
 ghost use Rattle.engine_calls.specs.Calls.{call_tree, zero_room};
@@ -12,7 +14,7 @@ use wire::{Answer, Remembered};
 use wire_numbers::CallEnding;
 
 // What a run leaves: how many transport calls it made, how it ended, what is remembered.
-#[derive(Drop)]
+#[derive(Clone, Copy)]
 pub struct Ran {
     pub count: u32,
     pub ending: CallEnding,

@@ -1,4 +1,6 @@
 // A call of the engine in words that are lent and updated in place: its start, and a step by the last answer.
+#![tactic(auto)]
+
 ghost use Rattle.std.specs.Prelude.{◌≡◌, get_or};
 ghost use Rattle.wire.specs.Laws.Told.{outcome_of};
 ghost use Rattle.wire.specs.declared.Answer.TheVariants.{Good};

@@ -1,5 +1,7 @@
 // The bench that a list runs on, in words: the model target behind its line, and how far the faults or answers are used that the list
 // gives for a call.
+#![tactic(auto)]
+
 use target::{Act, Target};
 use script_form::{byte, word};
 use wire::{Answer, Call};

@@ -1,5 +1,7 @@
 // The calls of a list: what a record orders of the session, and the bytes that its call is lent. The list has been judged; what a record
 // does not have reads 0. A record is its kind, the call's number and budget, and the arguments.
+#![tactic(auto)]
+
 ghost use Rattle.std.specs.Prelude.{◌≤◌, max, length};
 
 use call_core::{CallFrame, CoreCall, Function};

@@ -1,5 +1,7 @@
 // What is a list of session calls as data: its records, and the rules that its bytes keep. A list is a version byte, then records, each a
 // length of 2 bytes and so many bytes, the first of which is the record's kind. Numbers are big-endian.
+#![tactic(auto)]
+
 ghost use Rattle.std.specs.Prelude.{◌+◌, ◌≤◌, length};
 
 use script_form::{byte, half, word};
@@ -41,7 +43,7 @@ const ARGUMENTS: [usize; 29] = [
 
 // What the records so far say: whether there are a target and a call, how many bytes of memory the target has, and whether faults or
 // answers wait for their call.
-#[derive(Drop)]
+#[derive(Clone, Copy)]
 struct Seen {
     target: bool,
     size: u32,

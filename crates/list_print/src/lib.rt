@@ -1,5 +1,7 @@
 // The lines that a list prints. They are gathered in a room that is written to standard output whenever it is full, so that no line has a
 // bound. A function that takes a place `at` of the room puts its text there and answers the place behind it.
+#![tactic(auto)]
+
 use wire::Remembered;
 use wire_numbers::{CallEnding, TransportCall};
 

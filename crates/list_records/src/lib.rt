@@ -1,5 +1,7 @@
 // What the records of a list say that are no calls: memory, what the line does, and answers in place of target and line. The list has
 // been judged; what a record does not have reads 0. Entries count from 0.
+#![tactic(auto)]
+
 ghost use Rattle.std.specs.Prelude.{◌≤◌};
 
 use list_form::{ANSWER_BYTES, ANSWERS, FAULT_BYTES};

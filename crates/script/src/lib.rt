@@ -1,4 +1,6 @@
 // A script: a call for a new engine and the answers of its transport calls in, the listing of what the call did out.
+#![tactic(auto)]
+
 ghost use Rattle.std.specs.Prelude.{◌≡◌, true, cond, ◌+◌, ◌-◌, ◌*◌, ◌^◌, ◌≤◌, ◌<◌, length, drop};
 ghost use Rattle.std.proofs.lemmas.List.Edits.{sets};
 ghost use Rattle.script_form.specs.BigEndian.{word as Number·word, row};

@@ -1,4 +1,6 @@
 // What is a script: its big-endian numbers, and whether its bytes are one.
+#![tactic(auto)]
+
 ghost use Rattle.std.specs.Prelude.{◌≡◌, ◌+◌, ◌*◌, ◌^◌, ◌<◌};
 ghost use Rattle.script_form.specs.BigEndian.{byte as Number·byte, half as Number·half, word as Number·word};
 ghost use Rattle.script_form.specs.Script.{good_answer, good_answers, well_formed};

@@ -1,5 +1,7 @@
 // The lines that a script prints. A function that takes a place `at` puts its text into `out` from there on and answers the
 // place behind it; what falls outside `out` is dropped.
+#![tactic(auto)]
+
 ghost use Rattle.std.specs.Prelude.{◌≡◌, [], ◌∷◌, map, ◌+◌, ◌*◌, ◌^◌, ◌≤◌, ◌<◌, max, min, length};
 ghost use Rattle.wire.specs.Bytes.{handed, padded};
 ghost use Rattle.wire.specs.declared.Call.{Call};
@@ -14,7 +16,7 @@ use wire::Call;
 use wire_numbers::{CallEnding, TransportCall};
 
 // What stands behind the result: no line, or the line `D` of words or of bytes.
-#[derive(Drop)]
+#[derive(Clone, Copy)]
 pub enum Shown {
     Nothing,
     Words,

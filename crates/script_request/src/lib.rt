@@ -1,4 +1,6 @@
 // The request of a script: from the number of a call and the bytes behind it to the call and what it is lent.
+#![tactic(auto)]
+
 ghost use Rattle.std.specs.Prelude.{◌≡◌, ◌≤◌};
 ghost use Rattle.script_request.specs.Request.{fixed as Request·fixed, plain, words_follow, bytes_follow, function_of, call_frame_of, read_words, request_of};
 
@@ -12,7 +14,7 @@ use script_form::{byte, half, word};
 
 // What a call is lent: zeros that are printed afterwards, or the rest of its record, words behind so many bytes. `Frame`: zeros
 // for a frame, which is printed if the call succeeds.
-#[derive(Drop)]
+#[derive(Clone, Copy)]
 pub enum Buffer {
     Nothing,
     Words(u16),
@@ -22,7 +24,7 @@ pub enum Buffer {
     Frame,
 }
 
-#[derive(Drop)]
+#[derive(Clone, Copy)]
 pub enum Request {
     Malformed,
     Asked(EngineCall, Buffer),

@@ -1,4 +1,6 @@
 // A session as it stands, and what it answers: by the engine's answer, to what it refuses, and of a call that was left.
+#![tactic(auto)]
+
 ghost use Rattle.std.specs.Prelude.{List, ◌≡◌, ℕ};
 ghost use Rattle.session_calls.specs.Session.{closed, lending};
 ghost use Rattle.session_phase.specs.declared.Phase.TheVariants.{Closed};
@@ -13,7 +15,7 @@ use wire::Remembered;
 use wire_numbers::TransportCall;
 
 // `budget` and what is left of it are those of the last call; `state` has what is remembered and the call in flight.
-#[derive(Drop)]
+#[derive(Clone, Copy)]
 pub struct Session {
     pub phase: Phase,
     pub budget: u32,
@@ -22,7 +24,7 @@ pub struct Session {
 }
 
 // How a call ended: 01's number and value, and how many transport calls it made.
-#[derive(Drop)]
+#[derive(Clone, Copy)]
 pub struct SessionEnding {
     pub number: u8,
     pub value: u32,
@@ -30,28 +32,28 @@ pub struct SessionEnding {
 }
 
 // The transport call to make next, or how the call ended.
-#[derive(Drop)]
+#[derive(Clone, Copy)]
 pub enum SessionNext {
     Make(TransportCall),
     Finish(SessionEnding),
 }
 
 // What comes next, and the bytes of a sequence.
-#[derive(Drop)]
+#[derive(Clone, Copy)]
 pub struct Reply {
     pub next: SessionNext,
     pub bytes: [u8; 16],
 }
 
 // The session after a start or a step, and its reply to the caller.
-#[derive(Drop)]
+#[derive(Clone, Copy)]
 pub struct SessionAnswer {
     pub session: Session,
     pub reply: Reply,
 }
 
 // The frame of call 23, to be handed to call 24, or that it gives none.
-#[derive(Drop)]
+#[derive(Clone, Copy)]
 pub enum FrameGiven {
     Frame(CallFrame),
     Nothing,

@@ -1,4 +1,6 @@
 // The calls of a session: which call of the engine each is, and what the session knows of it before it starts.
+#![tactic(auto)]
+
 ghost use Rattle.std.specs.Prelude.{◌≡◌};
 ghost use Rattle.session_calls.specs.Calls.{engine_call, breakpoint, plain, facts_of};
 
@@ -11,7 +13,7 @@ use session_phase::Kind;
 use session_rules::{Align, Facts};
 
 // Calls 3, 9, 10, 13, 14, 15 to 25 and 26 to 28.
-#[derive(Drop)]
+#[derive(Clone, Copy)]
 pub enum SessionCall {
     ConnectSwd,
     ReadWord(u32),
@@ -23,7 +25,7 @@ pub enum SessionCall {
 }
 
 // What a caller asks for: a call, and how many transport calls it may make.
-#[derive(Drop)]
+#[derive(Clone, Copy)]
 pub struct Order {
     pub call: SessionCall,
     pub budget: u32,

@@ -1,4 +1,6 @@
 // The session's calls by value, over the functions that it is lent to: a caller's own session is lent for the call, and handed back.
+#![tactic(auto)]
+
 ghost use Rattle.session_calls.specs.Session.{lending};
 ghost use Rattle.session_steps.specs.Step.{Started, Stepped};
 

@@ -1,4 +1,6 @@
 // The session's calls for a caller who keeps the session and lends it by `&mut`.
+#![tactic(auto)]
+
 ghost use Rattle.std.specs.Prelude.{◌≡◌};
 ghost use Rattle.session_calls.specs.Session.{lending};
 ghost use Rattle.session.specs.Answer.{standing};

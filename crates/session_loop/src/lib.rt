@@ -1,4 +1,6 @@
 // A caller's loop over the session: its start and its steps, as the theorems of session_trail have them.
+#![tactic(auto)]
+
 ghost use Rattle.std.specs.Prelude.{List, [], ◌∷◌, ◌++◌, ◌≡◌};
 ghost use Rattle.wire.specs.declared.Answer.{Answer};
 ghost use Rattle.wire_numbers.specs.declared.TransportCall.{TransportCall};

@@ -1,11 +1,13 @@
 // When a session is open: it closes by a loss, by a call that is broken off, and by a connect that failed. And the budget of its calls.
+#![tactic(auto)]
+
 ghost use Rattle.std.specs.Prelude.{◌&&◌, ◌||◌, ◌≡◌, ◌-◌, eqb};
 ghost use Rattle.session_phase.specs.Phase.{loss, remembered_for, is_open, phase_due, phase_ended, phase_left};
 
 use wire::{Answer, Remembered};
 
 // What start and end of a call go by: a connect decides alone whether the session is open.
-#[derive(Drop)]
+#[derive(Clone, Copy)]
 pub enum Kind {
     Connect,
     Plain,
@@ -13,7 +15,7 @@ pub enum Kind {
 
 // While a call runs the session counts as closed, so that a call that its caller leaves, Spent, leaves it closed.
 // `lost`: an answer was an error other than WAIT and FAULT.
-#[derive(Drop)]
+#[derive(Clone, Copy)]
 pub enum Phase {
     Closed,
     Open,

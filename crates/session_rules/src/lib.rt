@@ -1,11 +1,13 @@
 // What a session refuses before any transport call is made: one ordered function over the facts of a call, in numbers.
+#![tactic(auto)]
+
 ghost use Rattle.std.specs.Prelude.{not, ◌≡◌, ◌+◌, leb};
 ghost use Rattle.session_rules.specs.Refusals.{admitted, aligned, ranged, refusal, refusal_number};
 
 use session_phase::Kind;
 
 // How the address of a call has to lie: anywhere, at a halfword, at a word.
-#[derive(Drop)]
+#[derive(Clone, Copy)]
 pub enum Align {
     Any,
     Half,
@@ -13,7 +15,7 @@ pub enum Align {
 }
 
 // What a session knows of a call before it starts. `spans`: the caller's buffer lies from the address on.
-#[derive(Drop)]
+#[derive(Clone, Copy)]
 pub struct Facts {
     pub kind: Kind,
     pub align: Align,
@@ -22,7 +24,7 @@ pub struct Facts {
 }
 
 // Why a session refuses a call.
-#[derive(Drop)]
+#[derive(Clone, Copy)]
 pub enum Refusal {
     NoSession,
     Align,
@@ -30,7 +32,7 @@ pub enum Refusal {
 }
 
 // Whether a call may start, or why it is refused.
-#[derive(Drop)]
+#[derive(Clone, Copy)]
 pub enum Check {
     Pass,
     Refuse(Refusal),

@@ -1,4 +1,6 @@
 // Start and step of a session: the calls that 01 admits, over what is remembered between them and under a budget each.
+#![tactic(auto)]
+
 ghost use Rattle.std.specs.Prelude.{◌||◌, List, ◌≡◌, ℕ};
 ghost use Rattle.engine.specs.Laws.State.{state_tree};
 ghost use Rattle.session_calls.specs.Session.{lending};

@@ -1,4 +1,6 @@
 // Demand 3 of a caller's loops over start and step, proved in specs/ of what these two ensure. This function only makes it a crate.
+#![tactic(auto)]
+
 ghost use Rattle.std.specs.Prelude.{◌≡◌};
 ghost use Rattle.wire.specs.Wire.{spent};
 ghost use Rattle.session_calls.specs.Session.{ran};

@@ -1,5 +1,7 @@
 // The model target of ADIv5.2, a debug port and a MEM-AP over lent memory: its types, its memory, and the register that a request
 // reaches. `target_dp` and `target_ap` have the accesses to registers, `target_line` a transport call to the target and over the line.
+#![tactic(auto)]
+
 ghost use Rattle.std.specs.Prelude.{◌≡◌, Bool, ◌+◌, ◌-◌, ◌*◌, ◌/◌, ◌%◌, ◌≤◌, ◌<◌, length};
 ghost use Rattle.target.specs.Memory.{byte_at, in_memory, load, store, loaded, stored};
 ghost use Rattle.target.specs.Decode.{bank_of, register_of};
@@ -10,7 +12,7 @@ use wire::Answer;
 
 // DPIDR, d, the increment's width and the memory's base are fixed for a target, the rest starts arbitrary. `owed` counts the
 // reads of CTRL/STAT that do not show the acks yet; d is what a power-up owes. Of TAR the low `width` bits are incremented, 10 to 32.
-#[derive(Drop)]
+#[derive(Clone, Copy)]
 pub struct Target {
     pub dpidr: u32,
     pub d: u32,
@@ -27,7 +29,7 @@ pub struct Target {
 }
 
 // The registers of the debug port, each with the direction that reaches it.
-#[derive(Drop)]
+#[derive(Clone, Copy)]
 pub enum DpRegister {
     AbortWrite,
     DpidrRead,
@@ -40,7 +42,7 @@ pub enum DpRegister {
 }
 
 // The registers of the access ports, likewise.
-#[derive(Drop)]
+#[derive(Clone, Copy)]
 pub enum ApRegister {
     CswWrite,
     CswRead,
@@ -52,42 +54,42 @@ pub enum ApRegister {
     OtherWrite,
 }
 
-#[derive(Drop)]
+#[derive(Clone, Copy)]
 pub enum Register {
     Dp(DpRegister),
     Ap(ApRegister),
 }
 
 // An access that was done: the value answered and the target after it.
-#[derive(Drop)]
+#[derive(Clone, Copy)]
 pub struct Done {
     pub value: u32,
     pub target: Target,
 }
 
 // What the engine gets of a transport call, and the target after it.
-#[derive(Drop)]
+#[derive(Clone, Copy)]
 pub struct Delivered {
     pub target: Target,
     pub answer: Answer,
 }
 
 // The byte at an address, or that memory has none there.
-#[derive(Drop)]
+#[derive(Clone, Copy)]
 pub enum Byte {
     Value(u8),
     Absent,
 }
 
 // The word at an address, or that memory does not have all of it.
-#[derive(Drop)]
+#[derive(Clone, Copy)]
 pub enum Word {
     Value(u32),
     Absent,
 }
 
 // The error of a lost transport call.
-#[derive(Drop)]
+#[derive(Clone, Copy)]
 pub enum Loss {
     Ack(u8),
     NotSupported,
@@ -95,7 +97,7 @@ pub enum Loss {
 }
 
 // What the line does with a transport call.
-#[derive(Drop)]
+#[derive(Clone, Copy)]
 pub enum Act {
     Deliver,
     Wait,

@@ -1,4 +1,6 @@
 // Accesses to the registers of the model target's MEM-AP, over lent memory.
+#![tactic(auto)]
+
 ghost use Rattle.std.specs.Prelude.{◌≡◌, ◌^◌, min};
 ghost use Rattle.target.specs.MemAp.{advanced, failed, posted, reach_ap, memory_after};
 

@@ -1,4 +1,6 @@
 // Accesses to the registers of the model target's debug port.
+#![tactic(auto)]
+
 ghost use Rattle.std.specs.Prelude.{◌≡◌, false, cond, ◌-◌, ◌≤◌};
 ghost use Rattle.target.specs.DebugPort.{STKERRCLR, has, powered, acked, ctrl_stat, requests, reach_dp};
 

@@ -1,4 +1,6 @@
 // A transport call to the model target, and over the line between engine and target; what the line does as numbers.
+#![tactic(auto)]
+
 ghost use Rattle.std.specs.Prelude.{◌≡◌, Bool};
 ghost use Rattle.target.specs.Deliver.{exempt_dp, barred, good, given, transfer, deliver};
 ghost use Rattle.target.specs.Line.{error_of, line, told, loss_of, act_of};

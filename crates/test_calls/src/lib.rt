@@ -1,4 +1,6 @@
 // For the programs that test the engine: its calls by 01's number, and pieces of text.
+#![tactic(auto)]
+
 use call_connect::ConnectCall;
 use call_core::{CallFrame, CoreCall, Function};
 use call_fpb::FpbCall;

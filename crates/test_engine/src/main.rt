@@ -1,6 +1,8 @@
 // What no script shows: what is remembered after Spent, the end of a ROM table, the frame of a call 23 that fails, the steps
 // themselves, also those past a call's end; and 01's cases that are not marked P. A line: a name, then for each run the transport
 // calls made, the result number and value, and SELECT, CSW, APSEL after; for each step the transport call or the ending.
+#![tactic(auto)]
+
 use engine::{NextStep, State, StepAnswer};
 use engine_calls::EngineCall;
 use engine_run::Ran;

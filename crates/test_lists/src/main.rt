@@ -1,5 +1,7 @@
 // Lists of calls, each list on one engine, as the unchanged Rust made them. Standard input and what must be printed for it:
 // tools/README.md.
+#![tactic(auto)]
+
 ghost use Rattle.std.specs.Prelude.{◌<◌};
 
 use engine_run::Ran;

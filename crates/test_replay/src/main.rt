@@ -1,5 +1,7 @@
 // Replays stored vectors from the unchanged Rust: each is a script and what `dapscript` must print for it.
 // Standard input: for each vector two lengths of 4 bytes, big-endian, then the script and the text.
+#![tactic(auto)]
+
 ghost use Rattle.std.specs.Prelude.{◌<◌};
 
 fn wide(x: u8) -> usize
@@ -21,7 +23,7 @@ fn agrees(script: &[u8], text: &[u8], out: &mut [u8]) -> bool {
     false
 }
 
-#[derive(Drop)]
+#[derive(Clone, Copy)]
 pub enum Vector {
     Agrees,
     Differs,

@@ -2,6 +2,8 @@
 // by execution after every call. The theorem says as much of every list; this shows that the code under it runs, and how often.
 // It prints how many calls of each kind ended with each result, how many failed half done, and how many checks failed, as the text of
 // standard input with a number for each #.
+#![tactic(auto)]
+
 ghost use Rattle.std.specs.Prelude.{◌≤◌};
 
 use target::{Delivered, Target};
@@ -15,7 +17,7 @@ const LISTS: u32 = 100000;
 // All but the session: the target; the last answer; a line that answers WAIT to the next `waits` transport calls, and else fails
 // at `faults` of 2^32; the generator's number; the transport calls of a list and the losses among them. By the trace alone: whether
 // a transport call of this call was lost, and whether the next one is an ABORT, whose answer is ignored.
-#[derive(Drop)]
+#[derive(Clone, Copy)]
 pub struct World {
     pub target: Target,
     pub answer: Answer,
@@ -29,7 +31,7 @@ pub struct World {
 }
 
 // What the session says: the next transport call or the ending, whether it is open, what it remembers.
-#[derive(Drop)]
+#[derive(Clone, Copy)]
 pub struct Said {
     pub next: SessionNext,
     pub open: bool,

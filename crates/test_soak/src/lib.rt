@@ -1,6 +1,8 @@
 // The parts of a soak of the session that need no session. What it draws from a generator: targets, their lines, and calls; whatever is
 // drawn has a number of its own after the one that is given. What it checks after a call, the four clauses of demand 3. What it counts,
 // and how it prints the counts.
+#![tactic(auto)]
+
 use target::Target;
 use wire::Remembered;
 
@@ -9,7 +11,7 @@ const BYTES: usize = 1152;
 
 // A call: its number, its arguments (`len` bytes from `addr` on, or the word to be written), one more than its budget, and the
 // generator's number after all that was drawn.
-#[derive(Drop)]
+#[derive(Clone, Copy)]
 pub struct Asked {
     pub number: u32,
     pub addr: u32,

@@ -3,6 +3,8 @@
 // sent, and the answer. The file stdout beside src/ has what 01 and ADIv5.2 say of each, worked out by hand; the comment above a
 // scenario names the rule. Chapters of ADIv5.2: B1 and B2 the debug port and its registers, B4 the SW-DP's acks, C1 access ports, C2
 // the MEM-AP.
+#![tactic(auto)]
+
 use libc::STDOUT_FILENO;
 use target::{Act, Byte, Loss, Target};
 use wire::{Answer, Call, Pattern};

@@ -3,12 +3,14 @@
 // Ported from arm-debug/src/lib.rs of ciniml/rust-dap.
 
 // Transport calls and their answers, errors and outcomes, and what the engine remembers; each by number where it stands in a word.
+#![tactic(auto)]
+
 ghost use Rattle.std.specs.Prelude.{◌≡◌, ◌%◌, ◌≤◌};
 ghost use Rattle.wire.specs.Bytes.{pattern_no, pattern_at, pattern_bytes, padded};
 ghost use Rattle.wire.specs.Laws.Told.{error_of, outcome_of};
 
 // What the engine remembers of the target. SELECT 0xFFFFFFFF means unknown.
-#[derive(Drop)]
+#[derive(Clone, Copy)]
 pub struct Remembered {
     pub select: u32,
     pub csw: bool,
@@ -16,7 +18,7 @@ pub struct Remembered {
 }
 
 // The fixed rows of bits that `swj_sequence` sends.
-#[derive(Drop)]
+#[derive(Clone, Copy)]
 pub enum Pattern {
     ResetHigh,
     ResetIdle,
@@ -29,7 +31,7 @@ pub enum Pattern {
 }
 
 // A transport call, as `DapTransport` has them.
-#[derive(Drop)]
+#[derive(Clone, Copy)]
 pub enum Call {
     Transfer {
         request: u8,
@@ -50,7 +52,7 @@ pub enum Call {
 }
 
 // What the transport says: Ok with a word, or one of `DapError`.
-#[derive(Drop)]
+#[derive(Clone, Copy)]
 pub enum Answer {
     Good(u32),
     SwdError(u8),
@@ -59,7 +61,7 @@ pub enum Answer {
 }
 
 // The Rust's errors, and what 01 adds for the engine: Range, Align, TableEnd.
-#[derive(Drop)]
+#[derive(Clone, Copy)]
 pub enum ArmError {
     Transfer(u8),
     Wait,
@@ -74,7 +76,7 @@ pub enum ArmError {
 }
 
 // How an operation or a call ended: with a value, or with an error.
-#[derive(Drop)]
+#[derive(Clone, Copy)]
 pub enum Outcome {
     Value(u32),
     Failed(ArmError),
@@ -125,7 +127,7 @@ pub fn wide(x: u8) -> u32
 }
 
 // An error or an outcome as two numbers.
-#[derive(Drop)]
+#[derive(Clone, Copy)]
 pub struct Told {
     pub number: u32,
     pub value: u32,

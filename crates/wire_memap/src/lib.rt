@@ -3,6 +3,8 @@
 // Ported from arm-debug/src/lib.rs of ciniml/rust-dap.
 
 // The words of an operation in flight; one access to a port, SELECT before it where it has to be written; the start of an operation.
+#![tactic(auto)]
+
 ghost use Rattle.std.specs.Prelude.{◌≡◌, ◌-◌, ◌≤◌, set, get_or};
 ghost use Rattle.wire_transfer.specs.Transfer.{raw};
 ghost use Rattle.wire_transfer.specs.Laws.Flight.{begun};
@@ -18,7 +20,7 @@ use words::*;
 pub mod words;
 
 // What a call may ask for. The words of a run stand in the row, the last at place `last`.
-#[derive(Drop)]
+#[derive(Clone, Copy)]
 pub enum Op {
     DpRead { addr: u8 },
     DpWrite { addr: u8, word: u32 },
@@ -32,7 +34,7 @@ pub enum Op {
 }
 
 // What an operation in flight comes to with an answer: its next transport call is in flight, or it is over.
-#[derive(Drop)]
+#[derive(Clone, Copy)]
 pub enum Went {
     Moving,
     Finished(Outcome),

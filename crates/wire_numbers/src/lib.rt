@@ -1,4 +1,6 @@
 // Transport calls, answers and endings as numbers: what a step answers with, and what lists of numbers hold.
+#![tactic(auto)]
+
 ghost use Rattle.std.specs.Prelude.{◌≡◌, ◌+◌, ◌/◌, ◌%◌, min, eqb, take, set, get_or};
 ghost use Rattle.wire.specs.Bytes.{handed, padded, le_bytes};
 ghost use Rattle.wire_transfer.specs.Laws.Flight.{transfer_of};
@@ -11,7 +13,7 @@ use wire_transfer::words::*;
 
 // A transport call as numbers. `kind` is the letter of a listing: T, C, Q, P, B or O; `word` is T's data or P's wait;
 // `len` bytes are handed over.
-#[derive(Drop)]
+#[derive(Clone, Copy)]
 pub struct TransportCall {
     pub kind: u8,
     pub request: u8,
@@ -23,7 +25,7 @@ pub struct TransportCall {
 }
 
 // How a call ended: 01's result number and value.
-#[derive(Drop)]
+#[derive(Clone, Copy)]
 pub struct CallEnding {
     pub number: u8,
     pub value: u32,

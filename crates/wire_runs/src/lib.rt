@@ -3,6 +3,8 @@
 // Ported from arm-debug/src/lib.rs of ciniml/rust-dap.
 
 // The next word of a run of words, taken at once: nearly all transfers of a memory call are such words.
+#![tactic(auto)]
+
 ghost use Rattle.std.specs.Prelude.{◌≡◌};
 ghost use Rattle.wire.specs.declared.Answer.TheVariants.{Good};
 ghost use Rattle.wire_memap.specs.Laws.Flight.{Tries, step_tree};

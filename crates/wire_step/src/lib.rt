@@ -3,6 +3,8 @@
 // Ported from arm-debug/src/lib.rs of ciniml/rust-dap.
 
 // What an operation in flight does with an answer: the access that follows, or the operation's value.
+#![tactic(auto)]
+
 ghost use Rattle.std.specs.Prelude.{true, false, ◌≡◌, ◌-◌, get_or};
 ghost use Rattle.wire.specs.declared.Answer.TheVariants.{Good};
 ghost use Rattle.wire.specs.declared.Outcome.TheVariants.{Value};

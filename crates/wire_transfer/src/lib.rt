@@ -3,6 +3,8 @@
 // Ported from arm-debug/src/lib.rs of ciniml/rust-dap.
 
 // One transport call in flight: a transfer with its WAIT retries and the ABORT after an error, or a call that is made once.
+#![tactic(auto)]
+
 ghost use Rattle.std.specs.Prelude.{◌≡◌};
 ghost use Rattle.wire.specs.declared.Outcome.{Outcome};
 ghost use Rattle.wire.specs.Wire.{Wire, Memory, follow};
@@ -16,7 +18,7 @@ use words::*;
 
 pub mod words;
 
-#[derive(Drop)]
+#[derive(Clone, Copy)]
 pub enum Went {
     Again,
     Ended(Outcome),
