@@ -1,5 +1,4 @@
 -- The operations that calls are made of.
-use Rattle.std.specs.Prelude.{Bool, true, false}
 use Rattle.wire_transfer.specs.Transfer.{raw}
 use Rattle.wire_memap.specs.Action.{Action}
 use Rattle.wire_memap.specs.Ports.{dp_read, dp_write, ap_read, ap_write}

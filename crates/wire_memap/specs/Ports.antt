@@ -3,7 +3,7 @@
 -- A2 4 and A3 8. SELECT is written only where it differs from the one remembered, and remembered after its Ok only; so is CSW.
 use Rattle.std.specs.Prelude.{ℕ, ◌+◌, ◌*◌, ◌/◌, ◌%◌, true, cond, eqb}
 use Rattle.wire.specs.declared.Remembered.{Remembered}
-use Rattle.wire_memap.specs.Action.{Action, ◌>>=◌, ◌>>◌, return, transferring, remember}
+use Rattle.wire_memap.specs.Action.{Action, ◌>>◌, return, transferring, remember}
 
 -- the debug port's registers
 abbrev pub DPIDR : ℕ

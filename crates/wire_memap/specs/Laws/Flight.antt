@@ -17,7 +17,7 @@ use Rattle.wire_transfer.specs.Laws.Flight.{Sized, transfer_of, transfer_tree, b
 use Rattle.wire.specs.declared.ArmError.{ArmError}
 use Rattle.wire.specs.declared.Outcome.{Outcome}
 use Rattle.wire.specs.declared.Outcome.TheVariants.{Value, Failed}
-use Rattle.wire_memap.specs.Action.{Then, Action, on_value, ◌>>=◌, ◌>>◌, return, cond, transferring, remember, remembering}
+use Rattle.wire_memap.specs.Action.{Then, Action, on_value, ◌>>◌, return, cond, transferring, remember, remembering}
 use Rattle.wire_memap.specs.Ports.{select_of, selected, csw_known, ap_access, ap_write, ap_read, dp_read, ensure_csw, dp_reading, dp_writing, ap_reading, ap_writing, CSW_DEFAULT, SELECT, RDBUFF, CSW, TAR, DRW}
 use Rattle.wire_memap.specs.Words.{flush, place, pull, push, push_all, row_at}
 use Rattle.wire_memap.specs.Laws.Doing.{UNIT, LAST_READ, PULL, PUSH, CSW_SENT, TAR_SENT, FIRST}
