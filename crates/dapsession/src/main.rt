@@ -4,11 +4,12 @@
 
 ghost use Rattle.std.specs.Prelude.{◌≡◌, ◌≤◌, length};
 
-use libc::STDIN_FILENO;
 use script_form::byte;
 use session::{FrameGiven, Session, SessionAnswer, SessionEnding, SessionNext};
 use wire::Answer;
 use wire_numbers::{CallEnding, TransportCall};
+
+const STDIN_FILENO: i32 = 0;
 
 // The calls that print data.
 const READ_MEM: u8 = 13;

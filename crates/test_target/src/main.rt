@@ -5,9 +5,10 @@
 // the MEM-AP.
 #![tactic(auto)]
 
-use libc::STDOUT_FILENO;
 use target::{Act, Byte, Loss, Target};
 use wire::{Answer, Call, Pattern};
+
+const STDOUT_FILENO: i32 = 1;
 
 // What a step does: a transfer by its request byte, or one of the calls and settings below.
 const ABORT: u32 = 0x0;
