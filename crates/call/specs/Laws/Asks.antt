@@ -1,6 +1,6 @@
 -- What a call asks for next. Serves the proofs only: a call in flight stands for what follows its operation.
-use Rattle.std.specs.Prelude.{ℕ, ◌≡◌, refl}
-use Rattle.wire.specs.Wire.{Wire, Memory}
+use Rattle.std.specs.Prelude.{◌≡◌, refl}
+use Rattle.wire.specs.Wire.{Memory}
 use Rattle.wire.specs.declared.Outcome.{Outcome}
 use Rattle.wire.specs.declared.Outcome.TheVariants.{Value, Failed}
 use Rattle.wire_memap.specs.Action.{Then}
