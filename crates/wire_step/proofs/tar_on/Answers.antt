@@ -1,0 +1,7 @@
+-- TAR is written once CSW is known.
+use Rattle.wire_memap.specs.Laws.Flight.{tar_begins}
+use Rattle.wire_step.proofs.tar_on.Goals as goal
+
+pub returns : goal.returns
+returns c =
+    let a = c.args in tar_begins a.t.now a.m.now c.access.ensures
