@@ -172,8 +172,8 @@ fn whole(op: Op) -> Asks
 
 // A turn's operation, after a change.
 fn moving(change: Change, step: TurnStep, m: Mem, op: Op) -> Asks
-    ensures m_value { keep_some change (op_then op (phase_after (Turn step m))) ≡ asks result.change result.next (memory_after result.at) }
-    ensures change_value { result.change ≡ change }
+    ensures turn { keep_some change (op_then op (phase_after (Turn step m))) ≡ asks result.change result.next (memory_after result.at) }
+    ensures change { result.change ≡ change }
 {
     let at = pack(step, m);
     Asks {
@@ -185,8 +185,8 @@ fn moving(change: Change, step: TurnStep, m: Mem, op: Op) -> Asks
 
 // A turn that moves whole words. To be written, they are loaded first.
 fn move_run(read: bool, m: Mem) -> Asks
-    ensures m_value { move_run read (addr_of m) (place_of m) m.size (rest read m) ≡ asks result.change result.next (memory_after result.at) }
-    ensures change_value { read ≡ true → result.change ≡ Nothing }
+    ensures turn { move_run read (addr_of m) (place_of m) m.size (rest read m) ≡ asks result.change result.next (memory_after result.at) }
+    ensures change { read ≡ true → result.change ≡ Nothing }
 {
     let addr = wire_memap::minus(m.stop, m.left);
     let n = m.size;
@@ -213,8 +213,8 @@ fn move_run(read: bool, m: Mem) -> Asks
 
 // A turn that moves a part of a word. To be written too, the word is read first.
 fn move_bytes(read: bool, m: Mem) -> Asks
-    ensures m_value { move_bytes read (addr_of m) (place_of m) m.size (rest read m) ≡ asks result.change result.next (memory_after result.at) }
-    ensures change_value { read ≡ true → result.change ≡ Nothing }
+    ensures turn { move_bytes read (addr_of m) (place_of m) m.size (rest read m) ≡ asks result.change result.next (memory_after result.at) }
+    ensures change { read ≡ true → result.change ≡ Nothing }
 {
     let addr = wire_memap::minus(m.stop, m.left);
     let op = Op::ReadWord {
@@ -228,8 +228,8 @@ fn move_bytes(read: bool, m: Mem) -> Asks
 
 // The turn with `left` bytes to go. One that reads changes nothing before its operation.
 fn mem_on(read: bool, stop: u32, len: u32, left: u32) -> Asks
-    ensures left_value { mem_from read stop len left ≡ asks result.change result.next (memory_after result.at) }
-    ensures change_value { read ≡ true → result.change ≡ Nothing }
+    ensures turn { mem_from read stop len left ≡ asks result.change result.next (memory_after result.at) }
+    ensures change { read ≡ true → result.change ≡ Nothing }
 {
     if left == 0 {
         return Asks {
