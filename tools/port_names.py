@@ -92,7 +92,7 @@ def turn(text, new):
         if w not in new:
             return w
         before = text[: m.start()]
-        if "-" in w and before.endswith("."):
+        if "-" in w and before.endswith(".") and not re.match(r"[A-Z0-9-]+$", w):
             return w
         return new[w]
 

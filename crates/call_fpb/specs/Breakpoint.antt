@@ -26,15 +26,15 @@ revision ctrl = ctrl / 0x10000000 % 16
 
 abbrev pub fpb_num_comps : Job
 fpb_num_comps = do
-  ctrl ← read_word_of fpb.FP-CTRL
+  ctrl ← read_word_of fpb.FP_CTRL
   return (num_code ctrl)
 
 -- What a comparator holds for a breakpoint at `addr`, if there can be one. From revision 1 on: the halfword's address. Revision 0, which
 -- reaches code below 0x20000000 alone: REPLACE, bits 31:30, is 2 for the upper halfword and 1 for the lower; then the word's address.
 abbrev pub fpb_comp_value : ℕ → ℕ → CompValue
 fpb_comp_value addr rev =
-    cond (leb 1 rev) (P.Some (addr - addr % 2 + fpb.COMP-ENABLE))
-    (cond (leb 0x20000000 addr) P.None (P.Some ((1 + addr / 2 % 2) * 0x40000000 + (addr - addr % 4) + fpb.COMP-ENABLE)))
+    cond (leb 1 rev) (P.Some (addr - addr % 2 + fpb.COMP_ENABLE))
+    (cond (leb 0x20000000 addr) P.None (P.Some ((1 + addr / 2 % 2) * 0x40000000 + (addr - addr % 4) + fpb.COMP_ENABLE)))
 
 -- where there is no value the call ends with no
 abbrev pub breakable : CompValue → (ℕ → Job) → Job
@@ -43,12 +43,12 @@ breakable (P.Some value) next = next value
 
 abbrev pub fpb_rev : Job
 fpb_rev = do
-  ctrl ← read_word_of fpb.FP-CTRL
+  ctrl ← read_word_of fpb.FP_CTRL
   return (revision ctrl)
 
 -- the address of comparator i
 abbrev pub comparator : ℕ → ℕ
-comparator i = fpb.FP-COMP0 + 4 * i
+comparator i = fpb.FP_COMP0 + 4 * i
 
 -- comparator i is the first free one, unless one was found before it; a free one has bit 0 clear
 abbrev pub first_free : Free → ℕ → ℕ → Free
@@ -71,13 +71,13 @@ seek value n (suc left) free = do
 
 -- KEY and ENABLE, the two low bits, are set besides
 abbrev pub enabled : ℕ → ℕ
-enabled ctrl = ctrl - ctrl % 4 + fpb.CTRL-KEY + fpb.CTRL-ENABLE
+enabled ctrl = ctrl - ctrl % 4 + fpb.CTRL_KEY + fpb.CTRL_ENABLE
 
 abbrev pub hw_breakpoint_set : ℕ → Job
 hw_breakpoint_set addr = do
-  ctrl ← read_word_of fpb.FP-CTRL
+  ctrl ← read_word_of fpb.FP_CTRL
   breakable (fpb_comp_value addr (revision ctrl)) (λ value. cond (eqb (num_code ctrl) 0) no (do
-    write_word fpb.FP-CTRL (enabled ctrl)
+    write_word fpb.FP_CTRL (enabled ctrl)
     seek value (num_code ctrl) (num_code ctrl) F.Nowhere))
 
 -- `left` of n comparators to go: the first one that holds the value, by its number, is found

@@ -23,15 +23,15 @@ answer known status = cond known (status % 2 + 2) (status % 2)
 
 abbrev pub read_status : Bool → Job
 read_status known = do
-  status ← ap_read nrf52.CTRLAP-APPROTECTSTATUS
+  status ← ap_read nrf52.CTRLAP_APPROTECTSTATUS
   set_apsel 0
   return (answer known status)
 
 abbrev pub nrf52_approtect_status : Job
 nrf52_approtect_status = do
-  set_apsel nrf52.CTRL-AP
-  idr ← ap_read nrf52.CTRLAP-IDR
-  read_status (eqb idr nrf52.CTRLAP-IDR-VALUE)
+  set_apsel nrf52.CTRL_AP
+  idr ← ap_read nrf52.CTRLAP_IDR
+  read_status (eqb idr nrf52.CTRLAP_IDR_VALUE)
 
 -- whether the erase came to its end
 abbrev pub outcome : Bool → Outcome
@@ -39,8 +39,8 @@ outcome erased = cond erased (Value 0) (Failed E.CoreTimeout)
 
 abbrev pub soft_reset : Bool → Job
 soft_reset erased = do
-  ap_write nrf52.CTRLAP-RESET 1
-  ap_write nrf52.CTRLAP-RESET 0
+  ap_write nrf52.CTRLAP_RESET 1
+  ap_write nrf52.CTRLAP_RESET 0
   set_apsel 0
   ends (outcome erased)
 
@@ -48,18 +48,18 @@ soft_reset erased = do
 unfoldable pub poll_erased : ℕ → Job
 poll_erased zero = soft_reset false
 poll_erased (suc n) = do
-  status ← ap_read nrf52.CTRLAP-ERASEALLSTATUS
+  status ← ap_read nrf52.CTRLAP_ERASEALLSTATUS
   cond (eqb (status % 2) 0) (soft_reset true) (poll_erased n)
 
 -- The mass erase by the CTRL_AP at `ap`, which is reached even where APPROTECT blocks memory: there is no other way past it.
 abbrev pub erase_all : ℕ → ℕ → Job
 erase_all ap polls = do
   set_apsel ap
-  ap_write nrf52.CTRLAP-ERASEALL 1
+  ap_write nrf52.CTRLAP_ERASEALL 1
   poll_erased polls
 
 abbrev pub nrf52_erase_all : ℕ → Job
-nrf52_erase_all polls = erase_all nrf52.CTRL-AP polls
+nrf52_erase_all polls = erase_all nrf52.CTRL_AP polls
 
 -- at most n reads of the register READY, until bit 0 is set
 unfoldable pub wait_ready : ℕ → ℕ → Job
@@ -69,15 +69,15 @@ wait_ready ready (suc n) = do
   cond (eqb (v % 2) 1) (return 0) (wait_ready ready n)
 
 abbrev pub nvmc_wait : ℕ → Job
-nvmc_wait polls = wait_ready nrf52.NVMC-READY polls
+nvmc_wait polls = wait_ready nrf52.NVMC_READY polls
 
 abbrev pub nrf52_erase_page : ℕ → ℕ → Job
 nrf52_erase_page addr polls = do
-  write_word nrf52.NVMC-CONFIG nrf52.NVMC-CONFIG-EEN
+  write_word nrf52.NVMC_CONFIG nrf52.NVMC_CONFIG_EEN
   nvmc_wait polls
-  write_word nrf52.NVMC-ERASEPAGE (addr - addr % nrf52.FLASH-PAGE)
+  write_word nrf52.NVMC_ERASEPAGE (addr - addr % nrf52.FLASH_PAGE)
   nvmc_wait polls
-  write_word nrf52.NVMC-CONFIG nrf52.NVMC-CONFIG-REN
+  write_word nrf52.NVMC_CONFIG nrf52.NVMC_CONFIG_REN
   return 0
 
 -- No words succeed at once. 01's Align and Range: the address is a multiple of 4, and the range ends below 2^32.
@@ -103,31 +103,31 @@ runs settle stop len (suc left) zero = do
 -- the flash only clears bits, so the caller erases it first
 abbrev pub nrf52_program : ℕ → ℕ → ℕ → Job
 nrf52_program addr words polls = programmable addr words (do
-  write_word nrf52.NVMC-CONFIG nrf52.NVMC-CONFIG-WEN
+  write_word nrf52.NVMC_CONFIG nrf52.NVMC_CONFIG_WEN
   nvmc_wait polls
   runs (nvmc_wait polls) (addr + 4 * words) words words 0
-  write_word nrf52.NVMC-CONFIG nrf52.NVMC-CONFIG-REN
+  write_word nrf52.NVMC_CONFIG nrf52.NVMC_CONFIG_REN
   return 0)
 
 abbrev pub nrf54_approtect_status : Job
 nrf54_approtect_status = do
-  set_apsel nrf54.CTRL-AP
+  set_apsel nrf54.CTRL_AP
   read_status false
 
 abbrev pub nrf54_erase_all : ℕ → Job
-nrf54_erase_all polls = erase_all nrf54.CTRL-AP polls
+nrf54_erase_all polls = erase_all nrf54.CTRL_AP polls
 
 abbrev pub rramc_wait : ℕ → Job
-rramc_wait polls = wait_ready nrf54.RRAMC-READY polls
+rramc_wait polls = wait_ready nrf54.RRAMC_READY polls
 
 -- this memory is overwritten as it is, by way of a buffer
 abbrev pub nrf54_program : ℕ → ℕ → ℕ → Job
 nrf54_program addr words polls = programmable addr words (do
-  write_word nrf54.RRAMC-CONFIG nrf54.RRAMC-CONFIG-WEN
+  write_word nrf54.RRAMC_CONFIG nrf54.RRAMC_CONFIG_WEN
   runs (return 0) (addr + 4 * words) words words 0
-  write_word nrf54.RRAMC-COMMIT 1
+  write_word nrf54.RRAMC_COMMIT 1
   rramc_wait polls
-  write_word nrf54.RRAMC-CONFIG 0
+  write_word nrf54.RRAMC_CONFIG 0
   return 0)
 
 -- calls 29 to 35, with as many words as the caller lends

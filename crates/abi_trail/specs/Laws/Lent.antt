@@ -92,7 +92,7 @@ module _ (Q : Memory → Type 0) (known : (m : Memory) (r : Remembered) → Q m 
   frame_csw wanted k m q f = frame_cond _ _ _ (frame_return 0) (frame_bind _ _ (frame_ap_write _ _) (λ _. frame_remember _)) k m q f
 
   -- at an address, CSW and TAR go before
-  frame_at : (addr : ℕ) (p : Action) → Frames p → Frames (A.◌>>◌ (P.ensure_csw P.CSW-DEFAULT) (A.◌>>◌ (P.ap_write P.TAR addr) p))
+  frame_at : (addr : ℕ) (p : Action) → Frames p → Frames (A.◌>>◌ (P.ensure_csw P.CSW_DEFAULT) (A.◌>>◌ (P.ap_write P.TAR addr) p))
   frame_at addr p h = frame_bind _ _ (frame_csw _) (λ _. frame_bind _ _ (frame_ap_write _ addr) (λ _. h))
 
   frame_flush : Frames W.flush

@@ -36,7 +36,7 @@ found false = λ (_ : ℕ). yes
 
 -- n comparators are looked at, if there are any
 abbrev pub enabling : ℕ → ℕ → Job
-enabling ctrl value = cond (eqb (num_code ctrl) 0) no (write_word fpb.FP-CTRL (enabled ctrl) >> seek value (num_code ctrl) (num_code ctrl) F.Nowhere)
+enabling ctrl value = cond (eqb (num_code ctrl) 0) no (write_word fpb.FP_CTRL (enabled ctrl) >> seek value (num_code ctrl) (num_code ctrl) F.Nowhere)
 
 abbrev pub counting : Bool → ℕ → Job
 counting clears value = fpb_num_comps >>= (λ n. find (found clears) value n n)

@@ -37,34 +37,34 @@ abbrev pub released : Bool → Job
 released erased = leaves (outcome erased)
 
 abbrev pub releasing : Bool → Job
-releasing erased = ap_write nrf52.CTRLAP-RESET 0 >> released erased
+releasing erased = ap_write nrf52.CTRLAP_RESET 0 >> released erased
 
 -- the registers of a chip's flash
 abbrev pub config : Chip → ℕ
-config Nrf52 = nrf52.NVMC-CONFIG
-config Nrf54 = nrf54.RRAMC-CONFIG
+config Nrf52 = nrf52.NVMC_CONFIG
+config Nrf54 = nrf54.RRAMC_CONFIG
 
 abbrev pub ready : Chip → ℕ
-ready Nrf52 = nrf52.NVMC-READY
-ready Nrf54 = nrf54.RRAMC-READY
+ready Nrf52 = nrf52.NVMC_READY
+ready Nrf54 = nrf54.RRAMC_READY
 
 abbrev pub closing : Chip → Job
 closing chip = write_word (config chip) 0 >> return 0
 
 -- what follows each run, and what follows the last
 abbrev pub settling : Chip → ℕ → Job
-settling Nrf52 polls = wait_ready nrf52.NVMC-READY polls
+settling Nrf52 polls = wait_ready nrf52.NVMC_READY polls
 settling Nrf54 polls = return 0
 
 abbrev pub finishing : Chip → ℕ → Job
 finishing Nrf52 polls = closing Nrf52
-finishing Nrf54 polls = write_word nrf54.RRAMC-COMMIT 1 >> (wait_ready nrf54.RRAMC-READY polls >> closing Nrf54)
+finishing Nrf54 polls = write_word nrf54.RRAMC_COMMIT 1 >> (wait_ready nrf54.RRAMC_READY polls >> closing Nrf54)
 
 abbrev pub programming : Chip → Program → Job
 programming chip p = runs (settling chip p.polls) p.stop p.len p.left 0 >> finishing chip p.polls
 
 abbrev pub flashing : Chip → Flash → Job
-flashing chip (F.Page page polls) = write_word nrf52.NVMC-ERASEPAGE page >> (wait_ready (ready chip) polls >> closing chip)
+flashing chip (F.Page page polls) = write_word nrf52.NVMC_ERASEPAGE page >> (wait_ready (ready chip) polls >> closing chip)
 flashing chip (F.Words p) = programming chip p
 flashing chip F.Close = closing chip
 
@@ -80,8 +80,8 @@ abbrev pub after_ready : Chip → Flash → ℕ → ℕ → Job
 after_ready chip then left v = cond (eqb (v % 2) 1) (return 0) (wait_ready (ready chip) left) >> flashing chip then
 
 abbrev pub enabling : Chip → Program → Job
-enabling Nrf52 p = write_word nrf52.NVMC-CONFIG nrf52.NVMC-CONFIG-WEN >> waiting Nrf52 (F.Words p) p.polls
-enabling Nrf54 p = write_word nrf54.RRAMC-CONFIG nrf54.RRAMC-CONFIG-WEN >> programming Nrf54 p
+enabling Nrf52 p = write_word nrf52.NVMC_CONFIG nrf52.NVMC_CONFIG_WEN >> waiting Nrf52 (F.Words p) p.polls
+enabling Nrf54 p = write_word nrf54.RRAMC_CONFIG nrf54.RRAMC_CONFIG_WEN >> programming Nrf54 p
 
 abbrev pub flash_after : FlashStep → Chip → Flash → ℕ → Job
 flash_after (S.Settle polls) chip then v = waiting chip then polls
@@ -89,7 +89,7 @@ flash_after (S.Wait left) chip then v = after_ready chip then left v
 flash_after S.Next chip then v = flashing chip then
 
 abbrev pub goes_on_of : NrfAt → ℕ → Job
-goes_on_of A.Idr v = read_status (eqb v nrf52.CTRLAP-IDR-VALUE)
+goes_on_of A.Idr v = read_status (eqb v nrf52.CTRLAP_IDR_VALUE)
 goes_on_of (A.Status known) v = leaves (Value (answer known v))
 goes_on_of (A.EraseAll polls) v = poll_erased polls
 goes_on_of (A.Erasing left) v = after_erased left v
@@ -105,10 +105,10 @@ phase_after p (Failed e) = fail e
 abbrev pub nrf_after : At → Outcome → Job
 nrf_after at o = phase_after (nrf_at_of at) o
 
-pub erased_more : (n : ℕ) → (n ≡ 0 → ⊥) → poll_erased n ≡ op (O.ApRead nrf52.CTRLAP-ERASEALLSTATUS) (after_erased (n - 1)) fail
+pub erased_more : (n : ℕ) → (n ≡ 0 → ⊥) → poll_erased n ≡ op (O.ApRead nrf52.CTRLAP_ERASEALLSTATUS) (after_erased (n - 1)) fail
 unfolding poll_erased
 erased_more zero h = absurd (h refl)
-erased_more (suc n) h = ap (λ (j : ℕ). op (O.ApRead nrf52.CTRLAP-ERASEALLSTATUS) (after_erased j) fail) (less n)
+erased_more (suc n) h = ap (λ (j : ℕ). op (O.ApRead nrf52.CTRLAP_ERASEALLSTATUS) (after_erased j) fail) (less n)
 
 pub waiting_more : (chip : Chip) (then : Flash) (n : ℕ) → (n ≡ 0 → ⊥)
     → waiting chip then n ≡ op (O.ReadWord (ready chip)) (after_ready chip then (n - 1)) fail
