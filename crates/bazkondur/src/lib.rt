@@ -1,4 +1,5 @@
-// What C and Rust link: the session, and the engine by itself, in words and numbers (include/bazkondur.h).
+// What C and Rust call: the session, and the engine by itself, in words and numbers (include/bazkondur.h). bazkondur_c exports it: this is a
+// library, which exports nothing.
 #![tactic(auto)]
 
 ghost use Rattle.std.specs.Prelude.{true, ◌≡◌, length};
