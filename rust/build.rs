@@ -1,5 +1,5 @@
 //! Links the archive of the proved engine: from the folder that `BAZKONDUR_LIB` names, else from
-//! where the toolchain puts it.
+//! where `tools/archive.sh` puts it.
 
 use std::env;
 use std::path::PathBuf;
@@ -19,7 +19,7 @@ fn main() {
     println!("cargo::rerun-if-changed={}", archive.display());
     if !archive.is_file() {
         eprintln!("there is no {}", archive.display());
-        eprintln!("`rt staticlib bazkondur` makes it; BAZKONDUR_LIB names another folder");
+        eprintln!("`tools/archive.sh`, at the root of the repository, makes it; BAZKONDUR_LIB names another folder");
         exit(1);
     }
     println!("cargo::rustc-link-search=native={}", folder.display());

@@ -19,7 +19,7 @@ if ! command -v "$cc" >/dev/null; then
     exit 77
 fi
 if ! [ -f "$lib" ] && [ -z "${BAZKONDUR_LIB:-}" ]; then
-    rt staticlib bazkondur
+    tools/archive.sh
 fi
 if ! [ -f "$lib" ]; then
     echo "no archive $lib to test" >&2

@@ -53,4 +53,4 @@ END {
     if (index(sums, said) != 1) wrong("the sentence below the table should begin: " said)
     print "believed: " grouped(definitions) " definition lines (" braced + 0 " of them inside braces), " grouped(all) " lines in all"
     exit status
-}' docs/READING.md $(find crates -path '*/specs/*.antt' ! -path '*/Laws/*' ! -name Lib.antt ! -name Laws.antt | sort)
+}' docs/READING.md $(find crates -path 'crates/*/specs/*.antt' ! -path '*/out/*' ! -path '*/Laws/*' ! -name Lib.antt ! -name Laws.antt | sort)

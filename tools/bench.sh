@@ -8,7 +8,7 @@
 set -eu
 cd "$(dirname "$0")/.."
 tools/oracle/build.sh
-[ -n "${BAZKONDUR_LIB:-}" ] || rt staticlib bazkondur >/dev/null
+[ -n "${BAZKONDUR_LIB:-}" ] || tools/archive.sh >/dev/null
 lib=${BAZKONDUR_LIB:-target/staticlib}
 out=target/bench
 mkdir -p "$out"

@@ -1,7 +1,8 @@
 #!/bin/sh
 # Compares the port with the unchanged Rust on N fresh scripts, byte by byte.
 # Usage: tools/compare.sh N [SEED]
-# DAPSCRIPT names another program, ARM_DEBUG_SRC another folder of the Rust.
+# DAPSCRIPT names another program than crates/dapscript/out/dapscript, which `rt ci` and `rt run` leave, ARM_DEBUG_SRC another folder
+# of the Rust.
 # Exit status: 0 all agree; 77 nothing was compared, as rustc or the source is not at hand; any other, some differ or it broke.
 set -eu
 calls=1-35
@@ -9,7 +10,7 @@ count=${1:?usage: tools/compare.sh N [SEED]}
 seed=${2:-$(date +%s)}
 cd "$(dirname "$0")/.."
 src=${ARM_DEBUG_SRC:-../shared/docs/src}
-port=${DAPSCRIPT:-target/bin/dapscript}
+port=${DAPSCRIPT:-crates/dapscript/out/dapscript}
 out=target/compare
 
 skip() {

@@ -21,7 +21,7 @@ skip() {
 command -v rustc >/dev/null || skip "no rustc"
 [ -f "$src/arm-debug/src/lib.rs" ] || skip "no arm-debug/src/lib.rs in $src"
 if ! [ -f "$lib/libbazkondur.a" ]; then
-    echo "no $lib/libbazkondur.a to compare: rt staticlib bazkondur makes it" >&2
+    echo "no $lib/libbazkondur.a to compare: tools/archive.sh makes it" >&2
     exit 1
 fi
 

@@ -1,7 +1,7 @@
 #!/bin/sh
 # The crates by layer, which is their prefix, from crates.txt, each with those that it builds on directly: what is reached through another one is
 # not named again. `--check` names the dependencies of a line that its crate does not need, and fails if there are any. A crate needs what
-# its files name, as `Rattle·NAME` or `NAME::`, and, as the toolchain wants it, whatever declares the type of a value that its code reaches:
+# its files name, as `Rattle.NAME.` or `NAME::`, and, as the toolchain wants it, whatever declares the type of a value that its code reaches:
 # the types it names, those in the signatures of the functions it calls, and what these hold.
 # Usage: tools/layers.sh [--check]
 set -eu
@@ -35,16 +35,25 @@ if [ "${1:-}" = --check ]; then
     }
     FNR == 1 { split(FILENAME, path, "/"); crate = path[2]; code = FILENAME ~ /\.rt$/; inside = "" }
     { text = $0
-      while (match(text, /Rattle·[a-z_0-9]+\./)) {
-          name = substr(text, RSTART, RLENGTH - 1); sub(/.*·/, "", name); needs[crate, name] = 1
+      while (match(text, /Rattle\.[a-z_0-9]+\./)) {
+          needs[crate, substr(text, RSTART + 7, RLENGTH - 8)] = 1
           text = substr(text, RSTART + RLENGTH)
       } }
     !code || /^ghost/ { next }
     { sub(/\/\/.*/, "") }
-    /^use / { gsub(/[;:]+/, " "); used[crate, $3] = $2; own[crate] = own[crate] " " $2 "." $3; next }
+    # an import, over one line or more: of one name, or of several in braces
+    /^use / { importing = "" }
+    /^use /, /;/ {
+        importing = importing " " $0
+        if (!/;/) next
+        gsub(/[{}:;,]+/, " ", importing)
+        n = split(importing, names, " ")
+        for (i = 3; i <= n; i++) { used[crate, names[i]] = names[2]; own[crate] = own[crate] " " names[2] "." names[i] }
+        next
+    }
     # a declaration: a type with what it holds, a function with its signature
-    /^(pub )?(struct|enum|fn) / {
-        name = $0; sub(/^(pub )?[a-z]+ /, "", name); sub(/[^A-Za-z0-9_].*/, "", name)
+    /^(pub )?(extern "C" )?(struct|enum|fn) / {
+        name = $0; sub(/^(pub )?(extern "C" )?[a-z]+ /, "", name); sub(/[^A-Za-z0-9_].*/, "", name)
         inside = crate "." name; held[inside] = " "
     }
     /^\{|ensures|requires/ && inside ~ /\.[a-z]/ { inside = "" }
@@ -54,6 +63,7 @@ if [ "${1:-}" = --check ]; then
     END {
         while ((getline line < "crates.txt") > 0) {
             if (line !~ /^[a-z]/) continue
+            sub(/ staticlib:/, ":", line)
             n = split(line, deps, /:? +|:$/)
             crate = deps[1]
             m = split(own[crate] held["code of " crate], names, " ")
@@ -63,7 +73,7 @@ if [ "${1:-}" = --check ]; then
             if (idle != "") { print crate " does not need:" idle; status = 1 }
         }
         exit status
-    }' $(find crates -name '*.antt' -o -name '*.rt')
+    }' $(find crates -path '*/out' -prune -o \( -name '*.antt' -o -name '*.rt' \) -print)
     exit
 fi
 
@@ -74,6 +84,7 @@ function layer_of(name) {
     return name == "wire" ? 1 : name ~ /^(call|engine)$/ ? 2 : name ~ /script$/ ? 3 : name == "target" ? 4 : name ~ /^(session|agreement)$/ ? 5 : name ~ /^(list|dapsession)$/ ? 6 : name ~ /^(abi|bazkondur)$/ ? 7 : 8
 }
 /^[a-z]/ {
+    sub(/ staticlib:/, ":")
     name = substr($1, 1, length($1) - 1)
     crate[++lines] = name
     for (i = 2; i <= NF; i++) { direct[name, i - 1] = $i; below[name, $i] = 1 }
@@ -83,7 +94,7 @@ function layer_of(name) {
     for (pair in deep) { split(pair, ends, SUBSEP); if (ends[1] == name) below[pair] = 1 }
 }
 END {
-    split("the wire|calls|the script|the model target|the session, and demand 3|lists of session calls|what C and Rust link|cases and tests", title, "|")
+    split("the wire|calls|the script|the model target|the session, and demand 3|lists of session calls|what C and Rust link|cases, tests, benchmark", title, "|")
     for (k = 1; k in title; k++) {
         print (k > 1 ? "\n" : "") title[k]
         for (l = 1; l <= lines; l++) {

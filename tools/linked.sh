@@ -13,7 +13,7 @@ if ! command -v rustc >/dev/null; then
     exit 77
 fi
 if [ -z "${BAZKONDUR_LIB:-}" ] && ! [ -f "$lib/libbazkondur.a" ]; then
-    rt staticlib bazkondur >/dev/null
+    tools/archive.sh >/dev/null
 fi
 mkdir -p "$out"
 compile() {

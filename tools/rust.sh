@@ -9,7 +9,7 @@ if ! command -v cargo >/dev/null; then
     exit 77
 fi
 if [ -z "${BAZKONDUR_LIB:-}" ] && ! [ -f target/staticlib/libbazkondur.a ]; then
-    rt staticlib bazkondur >/dev/null
+    tools/archive.sh >/dev/null
 fi
 cargo test --offline --quiet --manifest-path rust/Cargo.toml --target-dir target/rust
 echo "the crate's tests pass"

@@ -1,14 +1,15 @@
 #!/bin/sh
 # Compares the port's sessions with the reference, which runs the unchanged Rust, on N fresh lists of session calls, byte by byte.
 # Usage: tools/session.sh N [SEED]
-# DAPSESSION names another program, ARM_DEBUG_SRC another folder of the Rust.
+# DAPSESSION names another program than crates/dapsession/out/dapsession, which `rt ci` and `rt run` leave, ARM_DEBUG_SRC another folder
+# of the Rust.
 # Exit status: 0 all agree; 77 nothing was compared, as rustc or the source is not at hand; any other, some differ or it broke.
 set -eu
 count=${1:?usage: tools/session.sh N [SEED]}
 seed=${2:-$(date +%s)}
 cd "$(dirname "$0")/.."
 src=${ARM_DEBUG_SRC:-../shared/docs/src}
-port=${DAPSESSION:-target/bin/dapsession}
+port=${DAPSESSION:-crates/dapsession/out/dapsession}
 out=target/compare/session
 
 skip() {

@@ -1,37 +1,42 @@
 #!/bin/sh
-# All tests: the Rattle gate (every crate proved, every must-fail edit refused, every program's output as stored), the tree in the form
-# of `rt fmt`, READING's table of believed files, `dapscript` on the README's script and on one that is a byte too long, `dapsession` on
-# the stored lists, then fresh scripts compared with the unchanged Rust, and fresh lists of session calls with a reference over it; then
-# what a probe's maker links: the C interface (header, example, bad input, random words), the Rust crate, and that it is a drop-in.
-# Where rustc or its source, a C compiler or cargo is not at hand, a line says that a test was skipped; with CI=true it counts as failed.
-# The last line is 'N passed, 0 failed', and the exit status is 0 only then.
+# All tests: `rt ci` (every crate proved, every must-fail edit refused, every program's output as stored, no file out of its form),
+# READING's table of believed files, `dapscript` on the README's script and on one that is a byte too long, `dapsession` on the stored
+# lists, then fresh scripts compared with the unchanged Rust, and fresh lists of session calls with a reference over it; then what a
+# probe's maker links: the static library, the C interface (header, example, bad input, random words), the Rust crate, and that it is a
+# drop-in. Where rustc or its source, a C compiler or cargo is not at hand, a line says that a test was skipped; with CI=true it counts as
+# failed. The last line is 'N passed, 0 failed', and the exit status is 0 only then.
+# That the tree is in the form of `rt fmt` is no test of its own: `rt ci` refuses a crate that is not, and `rt fmt --check` is gone.
 set -u
 cd "$(dirname "$0")/.."
-# A check copies all that it builds on, up to 400 MB for a program: into memory where there is room for it, which halves the
-# system's share of the time.
-free=$(df -kP /dev/shm 2>/dev/null | awk 'NR == 2 { print $4 }')
-if [ -w /dev/shm ] && [ "${free:-0}" -gt 4000000 ]; then
-    TMPDIR=$(mktemp -d -p /dev/shm)
-else
-    TMPDIR=$(mktemp -d)
-fi
-chmod 755 "$TMPDIR"
-export TMPDIR
-# The checker gives memory back that it takes again at once; it keeps it instead.
-export MIMALLOC_PURGE_DELAY=-1
-trap 'rm -rf "$TMPDIR"' EXIT
-room=$TMPDIR/room
-mkdir "$room"
+room=$(mktemp -d)
+trap 'rm -rf "$room"' EXIT
 log=$room/log
-# As many checks at a time as there are cores, which is rt's own choice: with four on two cores each takes a tenth to a fifth more
-# processor time.
-rt ci 2>&1 | tee "$log"
+{
+    rt ci 2>&1
+    echo $? >"$room/status"
+} | tee "$log"
+status=$(cat "$room/status")
 last=$(tail -n 1 "$log")
 passed=$(echo "$last" | sed -n 's/^\([0-9]*\) passed, [0-9]* failed$/\1/p')
 failed=$(echo "$last" | sed -n 's/^[0-9]* passed, \([0-9]*\) failed$/\1/p')
 if [ -z "$passed" ]; then
     echo "0 passed, 1 failed"
     exit 1
+fi
+if [ "$status" -ne 0 ] && [ "$failed" -eq 0 ]; then
+    echo "FAILED: rt ci ended with status $status"
+    failed=1
+fi
+# An edit that cannot be applied or read is bad: it shows nothing. `rt ci` passes all the same, and counts such edits on its line 'rt: ok'.
+ok=$(grep '^rt: ok;' "$log" | tail -n 1)
+bad=$(echo "$ok" | sed -n 's/.*; must-fail edits: [^;]*, \([0-9][0-9]*\) bad.*/\1/p')
+if [ "${bad:-0}" -gt 0 ]; then
+    echo "FAILED: $bad of the must-fail edits are bad"
+    failed=$((failed + 1))
+fi
+if [ -z "$ok" ] && [ "$failed" -eq 0 ]; then
+    echo "FAILED: rt ci has no line 'rt: ok'"
+    failed=1
 fi
 
 # One test: a command succeeds.
@@ -46,12 +51,11 @@ holds() { # WHAT COMMAND..
         failed=$((failed + 1))
     fi
 }
-holds "whoever formats the project (rt fmt) sees no change" rt fmt --check
 holds "docs/READING.md lists the believed files" tools/believed.sh
 
-# One test: `dapscript` prints exactly this text for the script on standard input.
+# One test: `dapscript`, as `rt ci` left it, prints exactly this text for the script on standard input.
 prints() { # WHAT TEXT
-    target/bin/dapscript >"$room/printed"
+    crates/dapscript/out/dapscript >"$room/printed"
     printf '%s\n' "$2" >"$room/expected"
     holds "dapscript prints what it must for $1" cmp "$room/printed" "$room/expected"
 }
@@ -92,6 +96,7 @@ if [ -x target/session/text ]; then
     target/session/text encode <examples/accident.txt >"$room/accident"
     holds "the README's text is the stored list" cmp "$room/accident" lists/accident.list
 fi
+holds "the static library is proved and built" tools/archive.sh
 ends ' checks, 0 failed' tools/abi.sh
 ends 'the crate.s tests pass' tools/rust.sh
 compares tools/linked.sh

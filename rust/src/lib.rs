@@ -16,7 +16,7 @@
 //!
 //! # The archive
 //!
-//! `libbazkondur.a` is linked statically. `rt staticlib bazkondur`, at the root of the repository,
+//! `libbazkondur.a` is linked statically. `tools/archive.sh`, at the root of the repository,
 //! makes it in `target/staticlib`, where `build.rs` looks for it; the environment's `BAZKONDUR_LIB`
 //! names another folder (a relative one is taken from the crate's). **The archive is for x86-64 Linux
 //! only**, and so is this crate.

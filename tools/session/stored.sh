@@ -2,11 +2,11 @@
 # Runs the port on every stored list, and on one of the greatest length and one that is a byte too long, and compares what it prints
 # with what the reference printed. Needs no Rust.
 # Usage: tools/session/stored.sh
-# DAPSESSION names another program than target/bin/dapsession. The last line is 'stored lists: N agree, 0 differ', and the exit
+# DAPSESSION names another program than crates/dapsession/out/dapsession, which `rt ci` and `rt run` leave. The last line is 'stored lists: N agree, 0 differ', and the exit
 # status is 0 only then.
 set -eu
 cd "$(dirname "$0")/../.."
-port=${DAPSESSION:-target/bin/dapsession}
+port=${DAPSESSION:-crates/dapsession/out/dapsession}
 room=$(mktemp -d)
 trap 'rm -rf "$room"' EXIT
 agree=0
