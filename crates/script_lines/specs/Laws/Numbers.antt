@@ -1,6 +1,6 @@
 -- The text of a transport call in numbers is that of the transport call. Serves the proofs.
 use Rattle.std.specs.Prelude.{ℕ, ◌+◌, ◌-◌, ◌/◌, ◌≤◌, min, cond, ◌||◌, ◌≡◌, refl, List, [], ◌∷◌, ◌++◌, eqb, length, take, replicate}
-use Rattle.std.proofs.Common.{ap, ◌∙◌, arith, length-take, take_at}
+use Rattle.std.proofs.Common.{arith, length-take, take_at}
 use Rattle.wire.specs.Bytes.{handed, padded, pattern_bytes, le_bytes}
 use Rattle.wire.specs.declared.Pattern.{Pattern}
 use Rattle.wire.specs.declared.Pattern.TheVariants as P

@@ -1,19 +1,12 @@
 -- Laws of the texts of numbers. Serves the proofs.
-use Rattle.std.specs.Prelude.{ℕ, zero, suc, ◌+◌, ◌-◌, ◌/◌, ◌%◌, ◌≤◌, ◌<◌, ◌≡◌, refl, List, [], ◌∷◌, ◌++◌, map, length, get_or, take, drop, replicate}
-use Rattle.std.proofs.Common.{ap, sym, subst, ◌∙◌, arith, add-one, lt-ltb, le-ltb, le-leb, length-take, drop_of_length-le, drop-cons, take_at}
+use Rattle.std.specs.Prelude.{ℕ, zero, suc, ◌+◌, ◌-◌, ◌/◌, ◌%◌, ◌≤◌, ◌<◌, ◌≡◌, refl, List, [], ◌∷◌, ◌++◌, map, length, get_or, drop}
+use Rattle.std.proofs.Common.{ap, sym, subst, ◌∙◌, add-one, lt-ltb, le-ltb, le-leb, drop_of_length-le, drop-cons}
 use Rattle.std.proofs.lemmas.Bool.{lt-leb}
 use Rattle.wire.specs.Laws.Numbers.{less}
-use Rattle.wire.specs.Bytes.{handed, padded, pattern_bytes, le_bytes}
-use Rattle.wire.specs.declared.Pattern.{Pattern}
-use Rattle.wire.specs.declared.Pattern.TheVariants as P
-use Rattle.wire.specs.declared.Call.{Call}
-use Rattle.wire.specs.declared.Call.TheVariants as C
-use Rattle.wire_numbers.specs.declared.TransportCall.{TransportCall}
 use Rattle.wire_numbers.specs.declared.CallEnding.{CallEnding}
-use Rattle.wire_numbers.specs.Numbers.{numbers_of}
 use Rattle.wire_numbers.specs.Log.{call_of}
 use Rattle.script_lines.specs.Text.{space, digit, digits, hex, together}
-use Rattle.script_lines.specs.Listing.{bits_text, call_line, call_lines, data_start, run_lines, listed}
+use Rattle.script_lines.specs.Listing.{call_line, call_lines, data_start, run_lines, listed}
 use Rattle.script_lines.specs.declared.Shown.{Shown}
 use Rattle.script_lines.specs.Laws.Puts.{Puts, Left, left_puts, left_none}
 
