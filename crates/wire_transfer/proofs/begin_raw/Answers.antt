@@ -2,7 +2,6 @@
 use mathlib.Core.Path.{sym, ap, ◌∙◌}
 use Rattle.wire.specs.declared.Call.TheVariants.{Sequence}
 use Rattle.wire_transfer.specs.Laws.Flight.{raw_begun, pins_back, bits_back, transfer_back}
-use Rattle.std.proofs.Common.{rules}
 use Rattle.wire_transfer.proofs.begin_raw.Goals as goal
 
 pub returns-in-Transfer : goal.returns-in-Transfer

@@ -1,8 +1,6 @@
 -- A WAIT is `waited`, any other error an ABORT, as the definition tests the answer.
-use mathlib.Core.Path.{refl}
-use borrow.Author.Tests.{eq-eqb, ne_eqb}
-use Rattle.wire_transfer.specs.Laws.Flight.{Goes, goes_as, fails_with}
-use Rattle.std.proofs.Common.{rules}
+use borrow.Author.Tests.{ne_eqb}
+use Rattle.wire_transfer.specs.Laws.Flight.{fails_with}
 use Rattle.wire_transfer.proofs.tried.Goals as goal
 
 pub returns-else-ack-eq2 : goal.returns-else-ack-eq2

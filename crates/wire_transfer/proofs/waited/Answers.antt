@@ -1,6 +1,5 @@
 -- A count below 65 is taken up by one, and one of 65 or more is the last.
 use Rattle.wire_transfer.specs.Laws.Flight.{waits_no_more, waits_again}
-use Rattle.std.proofs.Common.{rules}
 use Rattle.wire_transfer.proofs.waited.Goals as goal
 
 pub returns-then-tries-ge-MOST : goal.returns-then-tries-ge-MOST

@@ -44,14 +44,13 @@ module _ (n : ℕ) (m : Memory) (c : Call) (ih : (answers : List Answer) → Tri
   after_answer_lem NotSupported rest = aborted n c m E.NotSupported rest
   after_answer_lem Other rest = aborted n c m E.Internal rest
 
-tries_calls : (n : ℕ) (m : Memory) (c : Call) (answers : List Answer) → Tried n c (play (tries n m c (done m)) answers).calls
-unfolding tries play
-tries_calls zero m c answers = none 0 c
-tries_calls (suc n) m c [] = none (suc n) c
-tries_calls (suc n) m c (a ∷ rest) = once_more n c _ (after_answer_lem n m c (tries_calls n m c) a rest)
-
 -- one transfer with nothing after it: at most 65 times the same call, then at most one ABORT
 pub transfer_calls : (m : Memory) (request word : ℕ) (answers : List Answer)
     → Tried 65 (C.Transfer request word) (play (transfer m request word (done m)) answers).calls
-unfolding transfer
+unfolding transfer tries play
 transfer_calls m request word answers = tries_calls 65 m (C.Transfer request word) answers
+  where
+    tries_calls : (n : ℕ) (m : Memory) (c : Call) (answers : List Answer) → Tried n c (play (tries n m c (done m)) answers).calls
+    tries_calls zero m c answers = none 0 c
+    tries_calls (suc n) m c [] = none (suc n) c
+    tries_calls (suc n) m c (a ∷ rest) = once_more n c _ (after_answer_lem n m c (tries_calls n m c) a rest)

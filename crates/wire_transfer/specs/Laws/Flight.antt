@@ -14,7 +14,7 @@ use Rattle.wire.specs.declared.ArmError.TheVariants as E
 use Rattle.wire.specs.declared.Call.{Call}
 use Rattle.wire.specs.declared.Call.TheVariants as C
 use Rattle.wire.specs.declared.Outcome.{Outcome}
-use Rattle.wire.specs.declared.Outcome.TheVariants.{Value, Failed}
+use Rattle.wire.specs.declared.Outcome.TheVariants.{Failed}
 use Rattle.wire_transfer.specs.declared.Went.{Went}
 use Rattle.wire_transfer.specs.declared.Went.TheVariants.{Again, Ended}
 
@@ -142,20 +142,16 @@ tries_more n m c k h = ap (λ (j : ℕ). tries j m c k) more
     more : 65 - n ≡ suc (65 - (n + 1))
     more = omega (arith, h)
 
--- and none more at 65
-tries_none : (n : ℕ) (m : Memory) (c : Call) (k : Outcome → Wire) → 65 ≤ n → tries (65 - n) m c k ≡ k (Failed E.Wait)
-unfolding tries
-tries_none n m c k h = ap (λ (j : ℕ). tries j m c k) none
-  where
-    none : 65 - n ≡ 0
-    none = omega (arith, h)
-
 -- what a WAIT leads to
 abbrev pub waits : List ℕ → Memory → (Outcome → Wire) → Wire
 waits t m k = tries (65 - (transfer_of t).made) m (transfer_of t).call k
 
 pub waits_no_more : (t : List ℕ) → Trying t → 65 ≤ get_or t 1 0 → Goes (waits t) (Ended (Failed E.Wait)) t
-waits_no_more t h e = record { tree = λ m k. tries_none (get_or t 1 0) m (transfer_of t).call k e; sized = h.0; counted = tt }
+unfolding tries
+waits_no_more t h e = record { tree = λ m k. ap (λ (j : ℕ). tries j m (transfer_of t).call k) none; sized = h.0; counted = tt }
+  where
+    none : 65 - get_or t 1 0 ≡ 0
+    none = omega (arith, e)
 
 pub waits_again : (t : List ℕ) → Trying t → get_or t 1 0 < 65 → Goes (waits t) Again (set t 1 (get_or t 1 0 + 1))
 waits_again t h = by_words (λ t. get_or t 0 0 ≡ 0 → get_or t 1 0 < 65 → Goes (waits t) Again (set t 1 (get_or t 1 0 + 1))) more t h.0 h.1
