@@ -1,5 +1,5 @@
 -- What follows each operation of a Nordic call. Serves the proofs only: the table of phases, and that it is the calls as written.
-use Rattle.std.specs.Prelude.{ℕ, zero, suc, ◌-◌, ◌/◌, ◌%◌, Bool, true, cond, List, [], ◌∷◌, ◌≡◌, refl, eqb, get_or}
+use Rattle.std.specs.Prelude.{ℕ, zero, suc, ◌-◌, ◌%◌, Bool, true, cond, ◌≡◌, refl, eqb}
 use Rattle.std.proofs.Common.{ap}
 use Rattle.wire.specs.Laws.Numbers.{less}
 use Rattle.wire.specs.declared.Outcome.{Outcome}
