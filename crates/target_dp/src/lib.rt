@@ -2,7 +2,8 @@
 #![tactic(auto)]
 
 ghost use Rattle.std.specs.Prelude.{◌≡◌, false, cond, ◌-◌, ◌≤◌};
-ghost use Rattle.target.specs.DebugPort.{STKERRCLR, has, powered, acked, ctrl_stat, requests, reach_dp};
+ghost use Rattle.target.specs.DebugPort as DebugPort;
+ghost use Rattle.target.specs.DebugPort.{has, powered, acked, ctrl_stat, requests, reach_dp};
 
 use target::{Done, DpRegister, Target};
 
@@ -85,7 +86,7 @@ fn less(n: u32) -> u32
 
 // Sticky after a write of ABORT.
 fn cleared(sticky: bool, word: u32) -> bool
-    ensures { result ≡ cond (has STKERRCLR word) false sticky }
+    ensures { result ≡ cond (has DebugPort.STKERRCLR word) false sticky }
 {
     if word / STKERRCLR % 2 == 1 {
         return false;
