@@ -1,0 +1,10 @@
+-- What is left of the words goes down.
+use Prim.Native.Nat.{◌-◌}
+use lib.ListN.{length}
+use Rattle.list_print.proofs.put_fields.Given as goal
+
+abbrev pub invariant-loop-i : goal.invariant-loop-i
+invariant-loop-i l = Unit {0}
+
+abbrev pub decreases-loop-i : goal.decreases-loop-i
+decreases-loop-i l = length l.words - l.i
