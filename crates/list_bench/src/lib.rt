@@ -2,8 +2,8 @@
 // gives for a call.
 #![tactic(auto)]
 
-use target::{Act, Target};
 use script_form::{byte, word};
+use target::{Act, Target};
 use wire::{Answer, Call};
 use wire_numbers::TransportCall;
 
