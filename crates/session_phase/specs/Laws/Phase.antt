@@ -1,7 +1,7 @@
 -- A phase by whether the session is open is open so; a call that is broken off; losses of several transport calls. Serves the proofs only.
 use Rattle.std.specs.Prelude.{Bool, true, false, ◌||◌, ◌≡◌, refl}
 use Rattle.wire.specs.Wire.{spent}
-use Rattle.session_phase.specs.Phase.{is_open, phase_of, Now, over, phase_now}
+use Rattle.session_phase.specs.Phase.{is_open, phase_of, over, phase_now}
 use Rattle.session_phase.specs.declared.Kind.{Kind}
 use Rattle.session_phase.specs.declared.Phase.TheVariants as P
 
