@@ -6,7 +6,6 @@ use Rattle.call_connect.specs.Laws.After.{connect_after}
 use Rattle.call_core.specs.Laws.After.{core_after}
 use Rattle.call_fpb.specs.Laws.After.{fpb_after}
 use Rattle.call_nrf.specs.Laws.After.{nrf_after}
-use Rattle.std.proofs.Common.{rules}
 use Rattle.engine_calls.proofs.call_start.Goals as goal
 
 pub returns-in-Connect : goal.returns-in-Connect
