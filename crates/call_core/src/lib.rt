@@ -11,7 +11,8 @@ ghost use Rattle.wire_memap.specs.declared.Op.TheVariants.{ReadWord, WriteWord};
 ghost use Rattle.call.specs.Job.{ends, attempt, or_fail};
 ghost use Rattle.call.specs.Laws.Asks.{asks, keep_some, next_job, op_then};
 ghost use Rattle.call_core.specs.Cortex as Cortex;
-ghost use Rattle.call_core.specs.Function.{core_job, ROM_TABLE_PTRS, joined, look_from, clobbered, write_row_reg, finishing, finish_function, after_wait};
+ghost use Rattle.call_core.specs.Function as Functions;
+ghost use Rattle.call_core.specs.Function.{core_job, joined, look_from, clobbered, write_row_reg, finishing, finish_function, after_wait};
 ghost use Rattle.call_core.specs.Laws.After.{bit_of, waiting, polled, access_on, access_after, entry_of, tabled, matching, find_on, ending, looking, looked, setting, saving, beginning, restoring, resulting};
 ghost use Rattle.call_core.specs.Laws.After.{run_on, over_on, then_on, goes_on_of, stops_at, phase_after, core_after};
 ghost use Rattle.call_places.specs.declared.CoreAt.TheVariants.{Access};
@@ -294,7 +295,7 @@ fn find_next(s: Search) -> Asks
 
 // The search for a function's code, from its start.
 fn look_up(want: u32) -> Asks
-    ensures { op_then (ReadWord ROM_TABLE_PTRS) (or_fail (tabled want)) ≡ asks result.change result.next (core_after result.at) }
+    ensures { op_then (ReadWord Functions.ROM_TABLE_PTRS) (or_fail (tabled want)) ≡ asks result.change result.next (core_after result.at) }
 {
     finding(
         FindStep::Table,
