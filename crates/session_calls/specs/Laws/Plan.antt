@@ -5,7 +5,7 @@ use mathlib.Core.List.{List, [], ◌∷◌, ◌++◌}
 use Rattle.std.proofs.Math.Path.{refl, ap, fun_ext}
 use Rattle.std.proofs.Common.{sym, ◌∙◌}
 use native.Mathlib.Omega.{arith}
-use Rattle.wire.specs.Wire.{Wire, Memory, done, ask, tell, play, Played, made, Ending, ended, spent}
+use Rattle.wire.specs.Wire.{Wire, Memory, done, ask, tell, play, Played, made, ended, spent}
 use Rattle.wire.specs.declared.Answer.{Answer}
 use Rattle.wire.specs.declared.Call.{Call}
 use Rattle.wire.specs.declared.Outcome.{Outcome}
