@@ -12,7 +12,6 @@ use Rattle.call_fpb.specs.declared.FpbCall.TheVariants as P
 use Rattle.call_nrf.specs.declared.NrfCall.TheVariants as F
 use Rattle.engine_calls.specs.declared.EngineCall.{EngineCall}
 use Rattle.engine_calls.specs.declared.EngineCall.TheVariants as E
-use Rattle.session_calls.specs.declared.SessionCall.{SessionCall}
 use Rattle.session_calls.specs.declared.SessionCall.TheVariants as S
 use Rattle.abi_calls.specs.declared.Given.{Given}
 use Rattle.abi_calls.specs.declared.Given.TheVariants as G
