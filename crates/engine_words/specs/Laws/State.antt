@@ -1,7 +1,7 @@
 -- The words of a call under way, and what they stand for. Serves the proofs only: that they stand for the right tree is what
 -- `start_in` and `step_in` show.
 use Rattle.std.specs.Prelude.{ℕ, ◌-◌, ◌%◌, Bool, true, false, List, [], ◌∷◌, ◌≡◌, refl, length, get_or, set}
-use Rattle.std.proofs.Common.{sym, ap, subst, ◌∙◌}
+use Rattle.std.proofs.Common.{sym, ap, subst}
 use Rattle.wire.specs.Wire.{Wire, Memory, done, ask, tell}
 use Rattle.wire.specs.Laws.Told.{outcome_of}
 use Rattle.wire_transfer.specs.Laws.Flight.{Mode, Transfer, transfer_of, flight}

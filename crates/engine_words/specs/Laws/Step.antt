@@ -1,21 +1,15 @@
 -- What the stores of the code leave, and why the words of a state stand for the rest of the call. Serves the proofs only.
-use Rattle.std.specs.Prelude.{ℕ, ◌+◌, ◌%◌, ◌<◌, Bool, true, false, cond, List, [], ◌≡◌, refl, eqb, ltb, set, length, get_or}
+use Rattle.std.specs.Prelude.{ℕ, ◌+◌, ◌%◌, ◌<◌, Bool, true, false, cond, List, ◌≡◌, refl, eqb, ltb, set, length, get_or}
 use Rattle.std.proofs.Common.{true≢false, sym, ap, subst, ◌∙◌, arith, lt-ltb, le-ltb}
-use Rattle.wire.specs.Bytes.{handed, padded}
 use Rattle.wire.specs.Wire.{Wire, Memory, memory_of, done, follow}
 use Rattle.wire.specs.declared.Remembered.{Remembered}
-use Rattle.wire_transfer.specs.Count.{Counted}
 use Rattle.wire.specs.Laws.Told.{outcome_of}
-use Rattle.wire_transfer.specs.Laws.Flight.{Mode, trying, aborting, raw, Transfer, transfer_of, flight}
 use Rattle.wire.specs.declared.Answer.{Answer}
 use Rattle.wire.specs.declared.Answer.TheVariants.{Good}
 use Rattle.wire.specs.declared.Outcome.{Outcome}
-use Rattle.wire.specs.declared.Call.{Call}
-use Rattle.wire_numbers.specs.Results.{result_of}
-use Rattle.wire_numbers.specs.Numbers.{numbers_of}
 use Rattle.wire_memap.specs.Ops.{perform}
 use Rattle.wire_memap.specs.Laws.Doing.{OpSized, remembered_of, stands, Remembers}
-use Rattle.wire_memap.specs.Laws.Flight.{Fits, Begins, Begun, Goes, Tries, step_tree, started_tree}
+use Rattle.wire_memap.specs.Laws.Flight.{Fits, Begun, Goes, Tries, step_tree}
 use Rattle.wire_memap.specs.declared.Op.{Op}
 use Rattle.wire_memap.specs.declared.Went.{Went}
 use Rattle.wire_memap.specs.declared.Went.TheVariants.{Moving, Finished}
