@@ -101,7 +101,7 @@ module _ {b : Bool} where
   fine_read_word addr = fine_at addr (ap_read DRW) (binds (fine_drw 0xF 0 tt) (λ _. fine_read))
 
   fine_write_word : (addr word : ℕ) → Fine b (write_word addr word)
-  fine_write_word addr word = fine_at addr _ (binds (binds (fine_drw 0xD word tt) (λ _. returns λ _ _ _ k. k)) (λ _. fine_flush))
+  fine_write_word addr word = fine_at addr _ (binds (binds (fine_drw 0xD word tt) (λ _. returns {v = 0} λ _ _ _ k. k)) (λ _. fine_flush))
 
   fine_read_words : (addr n last : ℕ) → Fine b (read_words addr n last)
   fine_read_words addr n last =

@@ -7,7 +7,7 @@ use Rattle.wire.specs.Bytes.{le_bytes, put_word}
 use Rattle.wire.specs.Wire.{Memory}
 use Rattle.wire.specs.declared.Outcome.TheVariants.{Value, Failed}
 use Rattle.wire_memap.specs.Ops.{perform}
-use Rattle.call.specs.Job.{exec, read_word_of, write_word}
+use Rattle.call.specs.Job.{either, exec, return, fail, read_word_of, write_word}
 use Rattle.target.specs.declared.Target.{Target}
 use Rattle.agreement.specs.Laws.Safe.{Post, Safe}
 use Rattle.agreement.specs.Laws.Progress.{Progress, Next, progress_none, progress_put}
@@ -36,7 +36,7 @@ module _ (base : ℕ) (old : List ℕ) (addr : ℕ) (z : addr % 4 ≡ 0) (m : Me
   unfolding exec perform Safe
   word_written w =
       (write_one base addr m.words m.buf old (Partly base old addr (le_bytes w)) (write_stops base old addr (le_bytes w)) (λ (_ : ℕ). w) Plan plans
-      (progress_none base old addr (le_bytes w))).runs
+      (progress_none base old addr (le_bytes w))).runs {k = either (λ v. exec (return v)) (λ e. exec (fail e))}
       (record { value = λ v f. (f.running.poised.start, f.end); fails = λ e k. k.rest })
       (idle_keeps i refl)
     where

@@ -126,7 +126,7 @@ module _ {Q : Post} {S : Stand} {M : Rest → Type 0} {b : Bool} (st : Stops S (
   selects = looks λ m. chooses (eqb (select_of m.remembered addr) m.remembered.select)
       (λ e. returns λ n t mem p. (p.1, rw p.0 (sym (eqb-true _ _ e) ∙ zeroes m n t mem p.0 p.1)))
       (λ e. binds (binds (writes_select st (λ n t mem p. keeps n t mem p.1) (select_of m.remembered addr) (written m e))
-      (λ _. returns λ _ _ _ p. p)) (λ _. remembers (selected (select_of m.remembered addr)) (λ _ _ _ p. p)))
+      (λ _. returns {v = 0} λ _ _ _ p. p)) (λ _. remembers (selected (select_of m.remembered addr)) (λ _ _ _ p. p)))
     where
       zeroes : (m n : Memory) (t : Target) (mem : List ℕ) → n ≡ m → P n t mem → select_of m.remembered addr ≡ 0
       zeroes m n t mem e p = zero_of m.remembered addr (rw e at (keeps n t mem p).port) low
@@ -172,7 +172,7 @@ module _ {Q : Post} {S : Stand} {M : Rest → Type 0} {b : Bool} (st : Stops S (
       (λ e. returns λ n t mem p. (p.1, rw p.0 e))
       (λ e. from (λ _ _ _ p. p.1) (binds (binds
       (accesses (λ _ _ _ k. k) (λ m t mem k _. keeps_selected m t mem k) (1 + a32 CSW) CSW CSW_DEFAULT (omega arith) writes_csw)
-      (λ _. returns λ _ _ _ p. p)) (λ _. remembers csw_known known)))
+      (λ _. returns {v = 0} λ _ _ _ p. p)) (λ _. remembers csw_known known)))
     where
       known : Implies (Written M b) (λ m t mem. Known M b (remembering m (csw_known m.remembered)) t mem)
       known m t mem p =

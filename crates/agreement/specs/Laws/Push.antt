@@ -104,7 +104,7 @@ module _ (base a n : ℕ) (word : ℕ → ℕ) (row buf : List ℕ) (N : List �
     -- one word alone
     pub push_one : n ≡ 1 → Triple Q S F false (At 1 0) (ap_write DRW (word 0) >> flush) Done
     push_one e =
-        binds (binds (binds (select_stands_lem DRW pushed_select) (λ _. transfers stops (sends 0 0 (sym e)))) (λ _. returns (λ _ _ _ p. p)))
+        binds (binds (binds (select_stands_lem DRW pushed_select) (λ _. transfers stops (sends 0 0 (sym e)))) (λ _. returns {v = 0} (λ _ _ _ p. p)))
         (λ _. subst (λ (k : ℕ). Triple Q S F false (At 0 k) flush Done) e push_flush)
 
     module _ (named : (j : ℕ) → word j ≡ get_or row j 0) where

@@ -1,6 +1,6 @@
 -- Demand 3 as one theorem: every well-formed target, whatever the width of its increment; every list of session calls with their
 -- budgets and what is lent for them; every line.
-use Rattle.std.specs.Prelude.{ℕ, Bool, true, false, List, [], ◌∷◌, ◌≡◌, refl, length, drop}
+use Rattle.std.specs.Prelude.{ℕ, Bool, false, List, [], ◌∷◌, ◌≡◌, refl, length, drop}
 use Rattle.std.proofs.lemmas.Bool.{false≢true}
 use Rattle.std.proofs.Common.{ap, ◌∙◌}
 use Rattle.target.specs.WellFormed.{WellFormed}
