@@ -1,5 +1,5 @@
 -- CSW known: TAR is next. Unknown: CSW goes before it.
-use Rattle.wire_memap.specs.Laws.Flight.{task_known, task_unknown}
+use Rattle.wire_memap.proofs.Tasks.{task_known, task_unknown}
 use Rattle.wire_memap.proofs.task_start.Goals as goal
 
 pub returns-then-m-eq1 : goal.returns-then-m-eq1

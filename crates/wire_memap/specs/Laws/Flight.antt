@@ -18,7 +18,7 @@ use Rattle.wire.specs.declared.ArmError.{ArmError}
 use Rattle.wire.specs.declared.Outcome.{Outcome}
 use Rattle.wire.specs.declared.Outcome.TheVariants.{Value, Failed}
 use Rattle.wire_memap.specs.Action.{Then, Action, on_value, ◌>>◌, return, cond, transferring, remember, remembering}
-use Rattle.wire_memap.specs.Ports.{select_of, selected, csw_known, ap_access, ap_write, ap_read, dp_read, ensure_csw, dp_reading, dp_writing, ap_reading, ap_writing, CSW_DEFAULT, SELECT, RDBUFF, CSW, TAR, DRW}
+use Rattle.wire_memap.specs.Ports.{select_of, selected, csw_known, ap_access, ap_write, ap_read, dp_read, ensure_csw, dp_reading, dp_writing, ap_reading, ap_writing, CSW_DEFAULT, SELECT, RDBUFF, TAR, DRW}
 use Rattle.wire_memap.specs.Words.{flush, place, pull, push, push_all, row_at}
 use Rattle.wire_memap.specs.Laws.Doing.{UNIT, LAST_READ, PULL, PUSH, CSW_SENT, TAR_SENT, FIRST}
 use Rattle.wire_memap.specs.Laws.Doing.{Phase, Kind, Task, Doing, Reach, OpSized, phase_of, kind_of, task_of, doing_of, reach_of, remembered_of, stands, by_words}
@@ -335,58 +335,12 @@ raw_begins c t m u g ws f = let h = g f.0 in record {
   counted = h.2;
 }
 
--- TAR once CSW is known
-pub tar_begins : (t m : List ℕ) {u v : List ℕ} → Accessed TAR_SENT (ap_writing TAR) TAR (get_or (set m 10 1) 4 0) t (set m 10 1) u v → Begun (tar_after m) t m u v
-tar_begins t m {u} {v} a ws f = record { tree = λ b k. here b k ∙ there.tree b k; fits = there.fits; counted = there.counted }
-  where
-    there : Begins (λ k. ap_access (ap_writing TAR) TAR (get_or (set m 10 1) 4 0) (in_phase TAR_SENT (set m 10 1) k)) (set m 10 1) ws u v
-    there = accesses a (omega arith) (f.0, length-set m 10 1 ∙ f.1) ws
-
-    here : (b : List ℕ) (k : Then) → tar_after m k (stands m ws b) ≡ ap_access (ap_writing TAR) TAR (get_or (set m 10 1) 4 0) (in_phase TAR_SENT (set m 10 1) k) (stands (set m 10 1) ws b)
-    here b k = by_words
-        (λ m. tar_after m k (stands m ws b) ≡ ap_access (ap_writing TAR) TAR (get_or (set m 10 1) 4 0) (in_phase TAR_SENT (set m 10 1) k) (stands (set m 10 1) ws b))
-        (λ m₀ m₁ m₂ m₃ m₄ m₅ m₆ m₇ m₈ m₉ m₁₀ m₁₁. refl) m f.1
-
 -- a task: TAR, or CSW before it
 abbrev pub tasked : ℕ → ℕ → ℕ → ℕ → ℕ → List ℕ → List ℕ
 tasked kind addr word n last m = set (set (set (set (set m 3 kind) 4 addr) 5 word) 1 n) 2 last
 
 abbrev pub task_by : ℕ → ℕ → ℕ → ℕ → Task
 task_by kind addr word last = record { kind = kind_of kind; addr = addr; word = word; last = last }
-
-tasked_sized : (kind addr word n last : ℕ) (m : List ℕ) → OpSized m → OpSized (tasked kind addr word n last m)
-tasked_sized kind addr word n last = by_words (λ m. OpSized (tasked kind addr word n last m)) (λ _ _ _ _ _ _ _ _ _ _ _ _. refl)
-
-module _ (kind addr word n last : ℕ) (t m : List ℕ) {u v : List ℕ} where
-  pub task_known : get_or (tasked kind addr word n last m) 10 0 ≡ 1 → Accessed TAR_SENT (ap_writing TAR) TAR addr t (tasked kind addr word n last m) u v
-      → Begun (ensuring_task (task_by kind addr word last) n) t m u v
-  task_known e a ws f = record { tree = λ b k. here b k ∙ there.tree b k; fits = there.fits; counted = there.counted }
-    where
-      m₅ : List ℕ → List ℕ
-      m₅ m = tasked kind addr word n last m
-
-      there : Begins (λ k. ap_access (ap_writing TAR) TAR addr (in_phase TAR_SENT (m₅ m) k)) (m₅ m) ws u v
-      there = accesses a (omega arith) (f.0, tasked_sized kind addr word n last m f.1) ws
-
-      here : (b : List ℕ) (k : Then) → ensuring_task (task_by kind addr word last) n k (stands m ws b) ≡ ap_access (ap_writing TAR) TAR addr (in_phase TAR_SENT (m₅ m) k) (stands (m₅ m) ws b)
-      here b k = by_words (λ m. get_or (m₅ m) 10 0 ≡ 1
-          → ensuring_task (task_by kind addr word last) n k (stands m ws b) ≡ ap_access (ap_writing TAR) TAR addr (in_phase TAR_SENT (m₅ m) k) (stands (m₅ m) ws b))
-          (λ m₀ m₁ m₂ m₃ m₄ m₅ m₆ m₇ m₈ m₉ m₁₀ m₁₁ e. simp (eq-eqb _ _ e)) m f.1 e
-
-  pub task_unknown : (get_or (tasked kind addr word n last m) 10 0 ≡ 1 → ⊥) → Accessed CSW_SENT (ap_writing CSW) CSW CSW_DEFAULT t (tasked kind addr word n last m) u v
-      → Begun (ensuring_task (task_by kind addr word last) n) t m u v
-  task_unknown e a ws f = record { tree = λ b k. here b k ∙ there.tree b k; fits = there.fits; counted = there.counted }
-    where
-      m₅ : List ℕ → List ℕ
-      m₅ m = tasked kind addr word n last m
-
-      there : Begins (λ k. ap_access (ap_writing CSW) CSW CSW_DEFAULT (in_phase CSW_SENT (m₅ m) k)) (m₅ m) ws u v
-      there = accesses a (omega arith) (f.0, tasked_sized kind addr word n last m f.1) ws
-
-      here : (b : List ℕ) (k : Then) → ensuring_task (task_by kind addr word last) n k (stands m ws b) ≡ ap_access (ap_writing CSW) CSW CSW_DEFAULT (in_phase CSW_SENT (m₅ m) k) (stands (m₅ m) ws b)
-      here b k = by_words (λ m. (get_or (m₅ m) 10 0 ≡ 1 → ⊥)
-          → ensuring_task (task_by kind addr word last) n k (stands m ws b) ≡ ap_access (ap_writing CSW) CSW CSW_DEFAULT (in_phase CSW_SENT (m₅ m) k) (stands (m₅ m) ws b))
-          (λ m₀ m₁ m₂ m₃ m₄ m₅ m₆ m₇ m₈ m₉ m₁₀ m₁₁ e. simp (ne_eqb _ _ e)) m f.1 e
 
 -- the same tree
 pub goes_as : {w v : List ℕ → Then → Wire} {r : Went} {t m ws : List ℕ} → ((b : List ℕ) (k : Then) → w b k ≡ v b k) → Goes v r t m ws → Goes w r t m ws

@@ -1,5 +1,5 @@
 -- TAR is written once CSW is known.
-use Rattle.wire_memap.specs.Laws.Flight.{tar_begins}
+use Rattle.wire_memap.proofs.Tasks.{tar_begins}
 use Rattle.wire_step.proofs.tar_on.Goals as goal
 
 pub returns : goal.returns
