@@ -1,8 +1,8 @@
 -- What comes next in the tree of a state is what its words tell. Serves the proofs only.
-use Rattle.std.specs.Prelude.{ℕ, ◌-◌, ◌%◌, Bool, true, false, not, cond, List, [], ◌≡◌, refl, eqb, ltb, get_or, set, replicate}
+use Rattle.std.specs.Prelude.{ℕ, ◌-◌, ◌%◌, Bool, true, false, not, cond, List, [], ◌≡◌, refl, eqb, ltb, get_or, replicate}
 use Rattle.std.proofs.Common.{sym, ap, subst, ◌∙◌, arith, lt-ltb, le-ltb, ltb-true, ltb-false, ne_eqb}
 use Rattle.wire.specs.Bytes.{handed, padded}
-use Rattle.wire.specs.Wire.{Wire, Memory, memory_of, done, follow}
+use Rattle.wire.specs.Wire.{Wire, Memory, memory_of}
 use Rattle.wire.specs.Laws.Told.{outcome_of}
 use Rattle.wire_transfer.specs.Laws.Flight.{Mode, Transfer, transfer_of, flight}
 use Rattle.wire_transfer.specs.Laws.Flight as D
@@ -20,8 +20,8 @@ use Rattle.engine_calls.specs.declared.EngineCall.{EngineCall}
 use Rattle.wire.specs.declared.Remembered.{Remembered}
 use Rattle.engine_words.specs.Status.{status_as, status_of, own_of, running, status_tree, CountedIn}
 use Rattle.engine_words.specs.Laws.State.{CallSized, on_room, flight_tree, words_tree, runs_tree, ends_tree, by_words}
-use Rattle.engine_words.specs.Laws.Step.{StandsFor, LentIn, StartedIn, SteppedIn}
-use Rattle.engine.specs.Step.{next_of, bytes_of, memory_in, awaited, Steps, Lent, Stepped}
+use Rattle.engine_words.specs.Laws.Step.{LentIn, StartedIn, SteppedIn}
+use Rattle.engine.specs.Step.{next_of, bytes_of, memory_in, awaited, Lent, Stepped}
 use Rattle.engine.specs.Laws.State.{state_tree}
 use Rattle.engine.specs.declared.NextStep.{NextStep}
 use Rattle.engine.specs.declared.NextStep.TheVariants as N
