@@ -9,7 +9,6 @@ pub mod Calls
 pub mod Plans
 pub mod Keep
 pub mod Aborts
-pub mod Opens
 pub mod WordBytes
 pub mod Progress
 pub mod Bytewise
@@ -17,12 +16,4 @@ pub mod Rows
 pub mod Got
 pub mod Drw
 pub mod Running
-pub mod Push
-pub mod Pull
-pub mod Runs
 pub mod EachTurn
-pub mod ReadTurns
-pub mod WriteTurns
-pub mod OneWord
-pub mod Memory
-pub mod Theorem

@@ -6,7 +6,7 @@ use Rattle.session_calls.specs.Session.{Standing, closed}
 use Rattle.session.specs.Answer.{standing}
 use Rattle.session.specs.declared.Session.{Session}
 use Rattle.agreement.specs.Demand3.{standing_after, open_told_of}
-use Rattle.agreement.specs.Laws.Theorem.{open_as_told}
+use Rattle.agreement.proofs.Theorem.{open_as_told}
 use Rattle.session_trail.specs.Chain.{Shown, Chain, none, next, told}
 use Rattle.session_trail.specs.Laws.Theorem.{trail}
 

@@ -32,10 +32,10 @@ use Rattle.agreement.specs.Laws.Safe.{Post, Stand, Safe, Holds, lives}
 use Rattle.agreement.specs.Laws.Progress.{Progress, progress_none}
 use Rattle.agreement.specs.Laws.Bytewise.{byte_in, progress_partly, progress_whole}
 use Rattle.agreement.specs.Laws.Got.{held_byte}
-use Rattle.agreement.specs.Laws.Runs.{Idle}
-use Rattle.agreement.specs.Laws.ReadTurns.{ReadSpent, ReadEnds, read_mem}
-use Rattle.agreement.specs.Laws.WriteTurns.{Partly, WriteSpent, WriteEnds, write_mem}
-use Rattle.agreement.specs.Laws.OneWord.{WordEnds, word_read, word_written}
+use Rattle.agreement.proofs.Runs.{Idle}
+use Rattle.agreement.proofs.ReadTurns.{ReadSpent, ReadEnds, read_mem}
+use Rattle.agreement.proofs.WriteTurns.{Partly, WriteSpent, WriteEnds, write_mem}
+use Rattle.agreement.proofs.OneWord.{WordEnds, word_read, word_written}
 
 -- refused: nothing changed, no success
 refused_reads : (r : Refusal) (x : Moment) (i : Item) (acts : List Act) (addr n : ℕ) (given : List ℕ)

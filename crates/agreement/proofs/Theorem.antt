@@ -11,8 +11,8 @@ use Rattle.agreement.specs.History.{Item, Moment, first, made, history, last_of}
 use Rattle.agreement.specs.Demand3.{Told, standing_after, open_told_of, AllTyped, open_after, MemoryKept, Each, none, and, InStep}
 use Rattle.agreement.specs.Laws.Kept.{Kept}
 use Rattle.agreement.specs.Laws.Keep.{keeps}
-use Rattle.agreement.specs.Laws.Memory.{memory_kept}
-use Rattle.agreement.specs.Laws.Opens.{open_next, open_told}
+use Rattle.agreement.proofs.Memory.{memory_kept}
+use Rattle.agreement.proofs.Opens.{open_next, open_told}
 
 -- clause 1 with arbitrary answers in place of a target
 pub open_as_told : (xs : List Told) → (standing_after closed xs).is_open ≡ open_told_of false closed xs

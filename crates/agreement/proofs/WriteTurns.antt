@@ -26,10 +26,10 @@ use Rattle.agreement.specs.Laws.Got.{Held, next_word, next_part}
 use Rattle.agreement.specs.Laws.Drw.{InKiB}
 use Rattle.agreement.specs.Laws.EachTurn.{EachTurn, all_turns}
 use Rattle.agreement.specs.Laws.Running.{Stays}
-use Rattle.agreement.specs.Laws.Push.{Plans, Wrote}
-use Rattle.agreement.specs.Laws.Pull.{Same, OneRead}
+use Rattle.agreement.proofs.Push.{Plans, Wrote}
+use Rattle.agreement.proofs.Pull.{Same, OneRead}
 use Rattle.session_calls.specs.Session.{ROOM}
-use Rattle.agreement.specs.Laws.Runs.{Idle, idle_keeps, idle_after, write_run, read_one}
+use Rattle.agreement.proofs.Runs.{Idle, idle_keeps, idle_after, write_run, read_one}
 
 -- some of the new bytes stand in memory
 abbrev pub Partly : ℕ → List ℕ → ℕ → List ℕ → List ℕ → Type 0

@@ -13,8 +13,8 @@ use Rattle.agreement.specs.Laws.Transfer.{Spot, Stops, Triple, Implies, chooses,
 use Rattle.agreement.specs.Laws.Ports.{Rest, Keeps, Keeping, Ready, stops, ensures, tars, select_zero}
 use Rattle.agreement.specs.Laws.Drw.{InKiB}
 use Rattle.agreement.specs.Laws.Running.{Stays, Running}
-use Rattle.agreement.specs.Laws.Push.{Plans, Pushed, going, Wrote, push_one, push_all_lem}
-use Rattle.agreement.specs.Laws.Pull.{Same, Aimed, Filled, OneRead, pull_first, pull_rest, pull_one}
+use Rattle.agreement.proofs.Push.{Plans, Pushed, going, Wrote, push_one, push_all_lem}
+use Rattle.agreement.proofs.Pull.{Same, Aimed, Filled, OneRead, pull_first, pull_rest, pull_one}
 
 -- what a set_up_lem leaves alone
 pub record Fixed (base : ℕ) (row buf mem : List ℕ) (r : Rest) : Type 0 where

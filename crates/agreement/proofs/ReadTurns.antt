@@ -20,9 +20,9 @@ use Rattle.agreement.specs.Laws.Got.{Got, got_run, got_part}
 use Rattle.agreement.specs.Laws.Drw.{InKiB}
 use Rattle.agreement.specs.Laws.EachTurn.{EachTurn, all_turns}
 use Rattle.agreement.specs.Laws.Running.{Stays}
-use Rattle.agreement.specs.Laws.Pull.{Same, Filled, OneRead}
+use Rattle.agreement.proofs.Pull.{Same, Filled, OneRead}
 use Rattle.session_calls.specs.Session.{ROOM}
-use Rattle.agreement.specs.Laws.Runs.{Idle, idle_keeps, idle_after, read_run, read_one}
+use Rattle.agreement.proofs.Runs.{Idle, idle_keeps, idle_after, read_run, read_one}
 
 -- `k` of the bytes from `addr` on are in the buffer, which has `len` places
 pub record ReadAt (base : ℕ) (old : List ℕ) (addr len k : ℕ) (m : Memory) (t : Target) (mem : List ℕ) : Type 0 where

@@ -12,11 +12,11 @@ use Rattle.target.specs.declared.Target.{Target}
 use Rattle.agreement.specs.Laws.Safe.{Post, Safe}
 use Rattle.agreement.specs.Laws.Progress.{Progress, Next, progress_none, progress_put}
 use Rattle.agreement.specs.Laws.Got.{Held}
-use Rattle.agreement.specs.Laws.Push.{Plans}
+use Rattle.agreement.proofs.Push.{Plans}
 use Rattle.session_calls.specs.Session.{ROOM}
-use Rattle.agreement.specs.Laws.Runs.{Idle, idle_keeps, read_one, write_one}
-use Rattle.agreement.specs.Laws.ReadTurns.{ReadSpent, read_stops}
-use Rattle.agreement.specs.Laws.WriteTurns.{Partly, WriteSpent, WriteEnds, write_stops}
+use Rattle.agreement.proofs.Runs.{Idle, idle_keeps, read_one, write_one}
+use Rattle.agreement.proofs.ReadTurns.{ReadSpent, read_stops}
+use Rattle.agreement.proofs.WriteTurns.{Partly, WriteSpent, WriteEnds, write_stops}
 
 -- a success has the word
 abbrev pub WordEnds : ℕ → List ℕ → ℕ → Post

@@ -1,0 +1,9 @@
+pub mod Opens
+pub mod Push
+pub mod Pull
+pub mod Runs
+pub mod ReadTurns
+pub mod WriteTurns
+pub mod OneWord
+pub mod Memory
+pub mod Theorem
