@@ -2,7 +2,6 @@
 use Rattle.wire_numbers.specs.Laws.Log.{good_answer_lem}
 use Rattle.engine_words.specs.Laws.Step.{stepped_from}
 use Rattle.engine_run.specs.Laws.Runs.{turns_by}
-use Rattle.std.proofs.Common.{rules}
 use Rattle.engine_run.proofs.turn.Goals as goal
 
 pub returns-then-runs_in : goal.returns-then-runs_in

@@ -1,6 +1,6 @@
 -- How a run follows the tree of its call, transport call by transport call. Serves the proofs only: each law takes what the
 -- code's functions ensure, and carries `Along` over one transport call.
-use Rattle.std.specs.Prelude.{ℕ, suc, ◌+◌, ◌-◌, ◌<◌, ◌≤◌, ◌≡◌, refl, List, [], ◌∷◌, map, length, drop, take, get_or, set}
+use Rattle.std.specs.Prelude.{ℕ, suc, ◌+◌, ◌<◌, ◌≤◌, ◌≡◌, refl, List, [], ◌∷◌, map, length, drop, take, get_or, set}
 use Rattle.std.proofs.Common.{sym, ap, subst, ◌∙◌, arith, add-one, drop_of_length-le, length-take, drop-cons, get_or-take}
 use Rattle.wire.specs.Wire.{Wire, Memory, done, ask, tell, follow, play, Played, made, spent}
 use Rattle.engine_words.specs.Laws.State.{DueIn}

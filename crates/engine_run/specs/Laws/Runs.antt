@@ -1,16 +1,15 @@
 -- How far a run has come, and what it reports where it ends. Serves the proofs only.
 use Rattle.std.specs.Prelude.{ℕ, ◌+◌, ◌<◌, ◌≤◌, Bool, true, false, not, cond, ◌≡◌, refl, List, [], map, eqb, length, set, get_or, take, replicate}
 use Rattle.std.proofs.Common.{true≢false, sym, ap, subst, ◌∙◌, arith}
-use Rattle.wire.specs.Wire.{Wire, Memory, memory_of, done, ask, tell, follow, play, Played, Ending, ended, spent}
+use Rattle.wire.specs.Wire.{Wire, Memory, memory_of, done, follow, play, Played, Ending, ended, spent}
 use Rattle.wire.specs.Laws.Told.{outcome_of}
 use Rattle.wire_transfer.specs.Laws.Flight.{Mode, Transfer, transfer_of, flight}
 use Rattle.wire_transfer.specs.Laws.Flight as D
 use Rattle.wire.specs.declared.Outcome.{Outcome}
 use Rattle.wire.specs.declared.Answer.{Answer}
-use Rattle.wire.specs.declared.Call.{Call}
 use Rattle.wire_memap.specs.Laws.Doing.{remembered_of, stands, Remembers}
 use Rattle.wire_numbers.specs.Log.{answer_of, code_of, call_of}
-use Rattle.wire_numbers.specs.Results.{result_of, ending_of}
+use Rattle.wire_numbers.specs.Results.{ending_of}
 use Rattle.wire_numbers.specs.Laws.Result.{number_tells}
 use Rattle.wire_numbers.specs.declared.CallEnding.{CallEnding}
 use Rattle.engine_calls.specs.Calls.{lent, call_tree, zero_room, leaves_frame, leave, words_left, frame_left}
