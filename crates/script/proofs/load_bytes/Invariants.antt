@@ -1,0 +1,15 @@
+-- What is left to fill is the places from j on; each turn copies one byte.
+use Prim.Native.Nat.{◌+◌, ◌-◌, ◌≤◌}
+use mathlib.Core.Path.{◌≡◌}
+use native.Mathlib.Omega.{arith}
+use Rattle.std.proofs.Common.{rules}
+use lib.ListN.{length, drop, length-drop}
+use Rattle.script_lines.specs.Laws.Puts.{Left, left_all}
+use Rattle.script.specs.Laws.Loads.{left_rest, rest_whole}
+use Rattle.script.proofs.load_bytes.Given as goal
+
+abbrev pub invariant-loop-j : goal.invariant-loop-j
+invariant-loop-j l = (l.j ≤ length l.initial.buf) × (length l.buf ≡ length l.initial.buf) × Left l.initial.buf 0 (drop 4 l.a) l.buf l.j (drop (4 + l.j) l.a)
+
+abbrev pub decreases-loop-j : goal.decreases-loop-j
+decreases-loop-j l = length l.initial.buf - l.j
