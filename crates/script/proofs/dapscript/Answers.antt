@@ -1,7 +1,6 @@
 -- The two branches are those of `output_of`.
 use mathlib.Core.Path.{sym, ◌∙◌}
 use native.Mathlib.Omega.{arith}
-use Rattle.std.proofs.Common.{rules}
 use Rattle.script.specs.Output.{output_of}
 use Rattle.script_form.specs.Laws.Sizes.{sizes}
 use Rattle.script.proofs.dapscript.Goals as goal

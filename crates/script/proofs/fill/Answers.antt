@@ -1,7 +1,5 @@
 -- Zeros are what most calls are lent; the others load the rest of their record over them.
-use native.Mathlib.Omega.{arith}
-use Rattle.script.specs.Laws.Lending.{few_words, few_bytes, given_words, given_bytes, no_buffer, zero_words, zero_bytes, zero_frame}
-use Rattle.std.proofs.Common.{rules}
+use Rattle.script.specs.Laws.Lending.{given_words, given_bytes, no_buffer, zero_words, zero_bytes, zero_frame}
 use Rattle.script.proofs.fill.Goals as goal
 
 pub returns-in-Nothing : goal.returns-in-Nothing

@@ -1,13 +1,10 @@
 -- What is left to fill is the places from j on, from the bytes from `at` on; each turn fills one.
 use Prim.Native.Nat.{◌+◌, ◌-◌, ◌*◌, ◌≤◌}
-use mathlib.Core.Path.{◌≡◌, refl}
-use native.Mathlib.Omega.{arith}
-use Rattle.std.proofs.Common.{rules}
+use mathlib.Core.Path.{◌≡◌}
 use lib.ListN.{length}
 use Rattle.script_lines.specs.Laws.Puts.{Left}
 use Rattle.script_form.specs.BigEndian.{row}
 use Rattle.script_form.specs.Script.{answer_at}
-use Rattle.script.specs.Laws.Loads.{row_all, left_row, row_whole}
 use Rattle.script.proofs.load_answers.Given as goal
 
 abbrev pub invariant-loop-j : goal.invariant-loop-j

@@ -4,7 +4,6 @@ use Prim.Native.Nat.{ℕ}
 use mathlib.Core.List.{List}
 use mathlib.Core.Path.{subst}
 use native.Mathlib.Omega.{arith}
-use Rattle.std.proofs.Common.{rules}
 use lib.ListN.{length-take}
 use Rattle.script_lines.specs.Laws.Puts.{Puts}
 use Rattle.script.specs.Laws.Performing.{count_most, count_fits, frame_length, performed_text}
@@ -13,7 +12,7 @@ use Rattle.script.proofs.perform.Goals as goal
 pub slice_bounds-log-end : goal.slice_bounds-log-end
 slice_bounds-log-end c =
     count_fits c.args.c c.args.b c.args.words.now c.args.buf.now c.args.answers.now
-          c.new.ensures c.run-ran.ensures (omega (arith, c.requires.0, c.zero_answers-log.ensures))
+    c.new.ensures c.run-ran.ensures (omega (arith, c.requires.0, c.zero_answers-log.ensures))
 
 pub slice_bounds-put_performed-end : goal.slice_bounds-put_performed-end
 slice_bounds-put_performed-end c =
@@ -25,26 +24,24 @@ slice_bounds-put_performed-end c =
     )
 
 pub put_performed-requires : goal.put_performed-requires
-put_performed-requires c =
-    (
-      omega (
-        arith,
-        c.requires.0,
-        count_most c.args.c c.args.b c.args.words.now c.args.buf.now c.args.answers.now
-          c.new.ensures c.run-ran.ensures (omega (arith, c.requires.0, c.zero_answers-log.ensures)),
-        length-take c.run-ran.result.count c.run-ran.new.log,
-      ),
-      frame_length c.args.c c.args.b c.args.words.now c.args.buf.now c.args.answers.now
-          c.new.ensures c.run-ran.ensures (omega (arith, c.requires.0, c.zero_answers-log.ensures)),
-      omega (arith, c.requires.1, c.run-ran.auto.words),
-      omega (arith, c.requires.2, c.run-ran.auto.buf),
-    )
+put_performed-requires c = (
+  omega (
+    arith,
+    c.requires.0,
+    count_most c.args.c c.args.b c.args.words.now c.args.buf.now c.args.answers.now
+        c.new.ensures c.run-ran.ensures (omega (arith, c.requires.0, c.zero_answers-log.ensures)),
+    length-take c.run-ran.result.count c.run-ran.new.log,
+  ),
+  frame_length c.args.c c.args.b c.args.words.now c.args.buf.now c.args.answers.now
+      c.new.ensures c.run-ran.ensures (omega (arith, c.requires.0, c.zero_answers-log.ensures)),
+  omega (arith, c.requires.1, c.run-ran.auto.words),
+  omega (arith, c.requires.2, c.run-ran.auto.buf),
+)
 
 pub returns : goal.returns
-returns c =
-    (
-      subst (λ (t : List ℕ). Puts c.args.out.now 0 t c.put_performed.new.out c.put_performed.result)
-          (performed_text c.args.c c.args.b c.args.words.now c.args.buf.now c.args.answers.now
-          c.new.ensures c.run-ran.ensures (omega (arith, c.requires.0, c.zero_answers-log.ensures))) c.put_performed.ensures.0,
-      c.put_performed.ensures.1,
-    )
+returns c = (
+  subst (λ (t : List ℕ). Puts c.args.out.now 0 t c.put_performed.new.out c.put_performed.result)
+      (performed_text c.args.c c.args.b c.args.words.now c.args.buf.now c.args.answers.now
+      c.new.ensures c.run-ran.ensures (omega (arith, c.requires.0, c.zero_answers-log.ensures))) c.put_performed.ensures.0,
+  c.put_performed.ensures.1,
+)

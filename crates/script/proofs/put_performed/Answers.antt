@@ -6,7 +6,6 @@ use Prim.Native.Nat.{ℕ}
 use native.Mathlib.Omega.{arith}
 use Rattle.script_lines.specs.Laws.Puts.{Puts}
 use Rattle.script.specs.Laws.Performing.{shown_text_lem}
-use Rattle.std.proofs.Common.{rules}
 use Rattle.script.proofs.put_performed.Goals as goal
 
 pub returns-then-is_frame : goal.returns-then-is_frame
@@ -28,4 +27,3 @@ returns c =
           c.put_run-2.ensures.0,
       omega (arith, c.requires, c.put_run-2.ensures.1),
     )
-

@@ -1,7 +1,6 @@
 -- The request is that of the definition, from the numbers read at the same places.
 use mathlib.Core.Path.{sym, ◌∙◌}
 use native.Mathlib.Omega.{arith}
-use Rattle.std.proofs.Common.{rules}
 use Rattle.script.specs.Output.{request_text}
 use Rattle.script.specs.Laws.Performing.{script_request}
 use Rattle.script.proofs.put_script.Goals as goal

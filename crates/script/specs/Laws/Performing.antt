@@ -2,7 +2,7 @@
 use Rattle.std.specs.Prelude.{ℕ, ◌+◌, ◌-◌, ◌≤◌, Bool, true, false, cond, ◌≡◌, refl, drop, replicate}
 use Rattle.std.proofs.Math.Path.{ap, sym, subst}
 use Rattle.std.proofs.Common.{◌∙◌, take_at}
-use mathlib.Core.List.{List, [], ◌∷◌, ◌++◌, map}
+use mathlib.Core.List.{List, [], ◌∷◌, map}
 use native.Mathlib.Omega.{arith}
 use Rattle.std.proofs.Math.ListN.{length, take, length-take, length-map}
 use Rattle.std.proofs.lemmas.List.Edits.{sets, sets-eq}
@@ -10,7 +10,6 @@ use Rattle.std.proofs.Math.Seq.{length-sets}
 use Rattle.wire.specs.Wire.{Wire, done, ask, tell, Played, play, succeeds}
 use Rattle.wire.specs.declared.Answer.{Answer}
 use Rattle.wire.specs.declared.Remembered.{Remembered}
-use Rattle.wire.specs.declared.Call.{Call}
 use Rattle.wire_numbers.specs.Log.{code_of, call_of, answer_of}
 use Rattle.wire_numbers.specs.declared.CallEnding.{CallEnding}
 use Rattle.call.specs.Change.{fresh}
