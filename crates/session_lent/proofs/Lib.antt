@@ -1,4 +1,0 @@
-pub mod SessionData
-pub mod LookLaw
-pub mod ThinLaw
-pub mod ThinLentLaw
