@@ -1,5 +1,5 @@
 -- A chain of loops stands as its calls, one after the other, leave it: so clause 1 of demand 3 holds of it, whatever was answered.
-use Rattle.std.specs.Prelude.{false, List, [], ◌∷◌, map, ◌≡◌, refl}
+use Rattle.std.specs.Prelude.{false, List, map, ◌≡◌, refl}
 use Rattle.std.proofs.Common.{ap, ◌∙◌}
 use Rattle.session_phase.specs.Phase.{is_open}
 use Rattle.session_calls.specs.Session.{Standing, closed}

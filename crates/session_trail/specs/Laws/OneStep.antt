@@ -4,12 +4,11 @@ use Rattle.std.specs.Prelude.{ℕ, ◌-◌, ◌≤◌, ◌<◌, Bool, true, fals
 use Rattle.std.proofs.Common.{sym, ap, subst, ◌∙◌, arith, eqb-true}
 use Rattle.std.proofs.lemmas.Bool.{eqb-false}
 use Rattle.wire.specs.Bytes.{padded}
-use Rattle.wire.specs.Wire.{Wire, Memory, done, ask, tell, follow, Ending, ended, spent, succeeds}
+use Rattle.wire.specs.Wire.{Wire, Memory, done, ask, tell, follow, Ending, spent, succeeds}
 use Rattle.wire.specs.declared.Answer.{Answer}
 use Rattle.wire.specs.declared.Call.{Call}
 use Rattle.wire.specs.declared.Remembered.{Remembered}
 use Rattle.wire_numbers.specs.declared.TransportCall.{TransportCall}
-use Rattle.engine.specs.Laws.State.{state_tree}
 use Rattle.engine.specs.Step.{memory_in}
 use Rattle.session_phase.specs.Phase.{Now, over, due, due_by, now_of, is_spent, opens_after, is_open, phase_of, phase_now, phase_left, connects}
 use Rattle.session_phase.specs.Laws.Phase.{open_phase, spent_closed}
@@ -18,7 +17,7 @@ use Rattle.session_phase.specs.declared.Phase.{Phase}
 use Rattle.session_phase.specs.declared.Phase.TheVariants as P
 use Rattle.session_rules.specs.declared.Refusal.TheVariants as R
 use Rattle.session_calls.specs.Session.{Standing, Lent, lending, Called, ran}
-use Rattle.session.specs.Answer.{standing, rested, next_by, bytes_by, Answers, Refused}
+use Rattle.session.specs.Answer.{standing, next_by, bytes_by, Answers, Refused}
 use Rattle.session_steps.specs.Step.{lost_by, SteppedIn, Stepped}
 use Rattle.session.specs.declared.Session.{Session}
 use Rattle.session.specs.declared.SessionEnding.{SessionEnding}

@@ -21,13 +21,12 @@ use Rattle.session_rules.specs.declared.Check.TheVariants.{Pass, Refuse}
 use Rattle.session_calls.specs.Session.{Standing, closed, Result, refused, ran, Called, check_of, called, checked, session_tree}
 use Rattle.session.specs.Answer.{standing, reported}
 use Rattle.session.specs.declared.Session.{Session}
-use Rattle.session.specs.declared.SessionNext.{SessionNext}
 use Rattle.session.specs.declared.SessionNext.TheVariants as N
 use Rattle.session.specs.declared.Reply.{Reply}
 use Rattle.agreement.specs.History.{Item, Moment, first, Made, heard_if, made, history, last_of}
 use Rattle.agreement.specs.Demand3.{AllTyped, Agree}
 use Rattle.agreement.proofs.Theorem.{demand3}
-use Rattle.session_trail.specs.Trail.{Trail, asks, Says, over, due}
+use Rattle.session_trail.specs.Trail.{asks, Says, over, due}
 use Rattle.session_trail.specs.Chain.{Shown, Loop}
 use Rattle.session_trail.specs.Loops.{call_at, line_over, Loops, none, next, budget_at, result_at, item_of, items_of, moment, Shows, AllShown, empty, and, LoopsInStep}
 use Rattle.session_trail.specs.Laws.Theorem.{trail}

@@ -15,7 +15,7 @@ use Rattle.session_rules.specs.declared.Refusal.TheVariants as R
 use Rattle.session_rules.specs.declared.Check.{Check}
 use Rattle.session_rules.specs.declared.Check.TheVariants.{Pass, Refuse}
 use Rattle.session_calls.specs.Calls.{kind_of}
-use Rattle.session_calls.specs.Session.{Standing, Lent, lending, lost_in, session_tree, refused, ran, settled, checked, check_of, called}
+use Rattle.session_calls.specs.Session.{Lent, lost_in, session_tree, ran, settled, checked, check_of, called}
 use Rattle.session_calls.specs.declared.Order.{Order}
 use Rattle.session_phase.specs.Phase.{now_of}
 use Rattle.session.specs.Answer.{standing, rested, next_by, Answers, Refused}
