@@ -1,12 +1,12 @@
 -- What the stores of the code leave. Serves the proofs only.
 use Rattle.std.specs.Prelude.{ℕ, List, [], ◌∷◌, ◌≡◌, refl, length, drop, get_or, set}
-use Rattle.std.proofs.Common.{sym, ap, subst, ◌∙◌}
+use Rattle.std.proofs.Common.{ap, subst, ◌∙◌}
 use Rattle.std.proofs.lemmas.List.Edits.{sets}
 use Rattle.wire.specs.Laws.Rows.{spell, spelled}
 use Rattle.engine.specs.declared.State.{State}
 use Rattle.session_phase.specs.declared.Phase.{Phase}
 use Rattle.session.specs.declared.Session.{Session}
-use Rattle.abi_words.specs.Words.{words_from, phase_at, state_of, session_of, KeepsState, KeepsSession}
+use Rattle.abi_words.specs.Words.{words_from, phase_at, state_of, KeepsState, KeepsSession}
 
 -- the words of a state, stored in their places
 abbrev pub put_state : State → List ℕ → List ℕ
