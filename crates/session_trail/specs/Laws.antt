@@ -1,5 +1,2 @@
 pub mod Along
 pub mod OneStep
-pub mod Theorem
-pub mod Chains
-pub mod Over

@@ -15,7 +15,7 @@ use Rattle.session.specs.declared.SessionNext.{SessionNext}
 use Rattle.session.specs.declared.SessionNext.TheVariants as N
 use Rattle.session_trail.specs.Trail.{Trail, AsCalled, Says, over, due}
 use Rattle.session_trail.specs.Trail as T
-use Rattle.session_trail.specs.Laws.Theorem.{trail}
+use Rattle.session_trail.proofs.Theorem.{trail}
 use Rattle.abi_words.specs.Words.{session_of}
 use Rattle.abi_words.specs.Numbers.{next_numbers}
 use Rattle.abi_trail.specs.Linked.{Linked, begun, more}

@@ -8,7 +8,7 @@ use Rattle.session.specs.declared.Session.{Session}
 use Rattle.agreement.specs.Demand3.{standing_after, open_told_of}
 use Rattle.agreement.proofs.Theorem.{open_as_told}
 use Rattle.session_trail.specs.Chain.{Shown, Chain, none, next, told}
-use Rattle.session_trail.specs.Laws.Theorem.{trail}
+use Rattle.session_trail.proofs.Theorem.{trail}
 
 pub chain_stands : {s s' : Session} {xs : List Shown} → Chain s xs s' → standing s' ≡ standing_after (standing s) (map told xs)
 unfolding standing_after

@@ -29,7 +29,7 @@ use Rattle.agreement.proofs.Theorem.{demand3}
 use Rattle.session_trail.specs.Trail.{asks, Says, over, due}
 use Rattle.session_trail.specs.Chain.{Shown, Loop}
 use Rattle.session_trail.specs.Loops.{call_at, line_over, Loops, none, next, budget_at, result_at, item_of, items_of, moment, Shows, AllShown, empty, and, LoopsInStep}
-use Rattle.session_trail.specs.Laws.Theorem.{trail}
+use Rattle.session_trail.proofs.Theorem.{trail}
 
 -- the line hears from the numbers of a transport call what it hears from the transport call
 deliver_same : (t : Target) (mem : List ℕ) (c : Call) → deliver t mem (call_at (N.Make (numbers_of c))) ≡ deliver t mem c
