@@ -1,6 +1,5 @@
 -- What is tried and taken is kept.
 use Rattle.abi_steps.specs.Laws.Takes.{takes_one, takes_none}
-use Rattle.std.proofs.Common.{rules}
 use Rattle.abi_steps.proofs.moves.Goals as goal
 
 pub returns-then-moves_in : goal.returns-then-moves_in

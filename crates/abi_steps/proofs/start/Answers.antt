@@ -1,6 +1,5 @@
 -- The call is started in the words, and they are told.
 use Rattle.abi_steps.specs.Laws.Takes.{starts_say}
-use Rattle.std.proofs.Common.{rules}
 use Rattle.abi_steps.proofs.start.Goals as goal
 
 pub returns : goal.returns

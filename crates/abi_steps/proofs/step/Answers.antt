@@ -1,6 +1,5 @@
 -- Taken at once, or by the engine's own step.
-use Rattle.abi_steps.specs.Laws.Takes.{takes_value, at_once, not_at_once}
-use Rattle.std.proofs.Common.{rules}
+use Rattle.abi_steps.specs.Laws.Takes.{takes_value, at_once}
 use Rattle.abi_steps.proofs.step.Goals as goal
 
 pub returns-then-runs : goal.returns-then-runs

@@ -1,6 +1,5 @@
 -- The step is taken in the words, and they are told; with no call under way nothing is done.
 use Rattle.abi_steps.specs.Laws.Takes.{steps_by, steps_none}
-use Rattle.std.proofs.Common.{rules}
 use Rattle.abi_steps.proofs.stepped.Goals as goal
 
 pub returns-then-is_running : goal.returns-then-is_running

@@ -2,7 +2,6 @@
 use mathlib.Core.Path.{refl, sym, ap, ◌∙◌}
 use Rattle.engine_words.specs.Status.{running}
 use Rattle.abi_steps.specs.Laws.Takes.{tells_due, tells_end}
-use Rattle.std.proofs.Common.{rules}
 use Rattle.abi_steps.proofs.tell.Goals as goal
 
 pub returns-then-is_running : goal.returns-then-is_running

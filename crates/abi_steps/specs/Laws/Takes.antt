@@ -1,7 +1,7 @@
 -- What is taken at once is a step; and what is told of the words is the engine's answer. Serves the proofs only.
 use Rattle.std.specs.Prelude.{ℕ, ◌%◌, Bool, true, false, List, [], ◌≡◌, refl, length, get_or, replicate}
 use Rattle.std.proofs.Common.{true≢false, sym, ap, subst, ◌∙◌}
-use Rattle.wire.specs.Bytes.{handed, padded}
+use Rattle.wire.specs.Bytes.{padded}
 use Rattle.wire.specs.Laws.Told.{outcome_of}
 use Rattle.wire.specs.declared.Answer.{Answer}
 use Rattle.wire.specs.declared.Answer.TheVariants.{Good}
@@ -20,7 +20,6 @@ use Rattle.engine_words.specs.Laws.Step.{StartedIn, SteppedIn, TriesIn}
 use Rattle.engine.specs.Laws.Answer.{Answers, answers_call, answers_end, started, stepped}
 use Rattle.engine.specs.Step as Engine
 use Rattle.engine.specs.declared.State.{State}
-use Rattle.engine.specs.declared.StepAnswer.{StepAnswer}
 use Rattle.engine.specs.declared.NextStep.{NextStep}
 use Rattle.engine.specs.declared.NextStep.TheVariants as N
 use Rattle.session_calls.specs.Session.{lending}

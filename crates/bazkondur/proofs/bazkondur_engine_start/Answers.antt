@@ -1,7 +1,5 @@
-
 use mathlib.Core.Path.{sym, ◌∙◌}
-use Rattle.bazkondur.specs.Laws.Goes.{engine_begins_not, engine_begins_as}
-use Rattle.std.proofs.Common.{rules}
+use Rattle.bazkondur.specs.Laws.Goes.{engine_begins_as}
 use Rattle.bazkondur.proofs.bazkondur_engine_start.Goals as goal
 
 pub returns-in-Asked : goal.returns-in-Asked

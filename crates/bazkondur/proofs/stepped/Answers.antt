@@ -1,7 +1,6 @@
 -- What was answered by value is kept in the words.
 use mathlib.Core.Path.{refl}
 use Rattle.bazkondur.specs.Laws.Goes.{goes_says}
-use Rattle.std.proofs.Common.{rules}
 use Rattle.bazkondur.proofs.stepped.Goals as goal
 
 pub returns : goal.returns

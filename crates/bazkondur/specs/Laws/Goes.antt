@@ -1,5 +1,5 @@
 -- A session's step by value, and one whose value is taken at once in the words. Serves the proofs only.
-use Rattle.std.specs.Prelude.{ℕ, ◌-◌, ◌<◌, ◌%◌, Bool, true, false, ◌&&◌, ◌||◌, cond, List, [], ◌∷◌, ◌≡◌, refl, eqb, length, drop, get_or, set}
+use Rattle.std.specs.Prelude.{ℕ, ◌-◌, ◌<◌, ◌%◌, Bool, true, false, ◌&&◌, ◌||◌, List, [], ◌∷◌, ◌≡◌, refl, eqb, length, drop, get_or, set}
 use Rattle.std.proofs.Common.{true≢false, sym, ap, subst, ◌∙◌, arith, ne_eqb, eqb-true}
 use Rattle.wire.specs.Bytes.{handed, padded}
 use Rattle.wire.specs.Wire.{follow}
@@ -14,7 +14,7 @@ use Rattle.wire_numbers.specs.Numbers.{numbers_of}
 use Rattle.wire_memap.specs.Laws.Doing.{remembered_of}
 use Rattle.wire.specs.declared.Remembered.{Remembered}
 use Rattle.call.specs.Change.{fresh}
-use Rattle.engine_words.specs.Status.{Ended, Status, status_as, status_of, own_of, running}
+use Rattle.engine_words.specs.Status.{Ended, status_as, status_of, running}
 use Rattle.engine_words.specs.Laws.State.{which}
 use Rattle.engine.specs.Laws.Answer.{answers_call, stepped}
 use Rattle.engine.specs.Laws.State.{state_tree}
@@ -26,7 +26,7 @@ use Rattle.session_phase.specs.declared.Kind.{Kind}
 use Rattle.session_phase.specs.declared.Phase.{Phase}
 use Rattle.session_phase.specs.declared.Phase.TheVariants.{Closed, Running}
 use Rattle.session_calls.specs.Session.{Lent, lending, closed}
-use Rattle.session.specs.Answer.{standing, Answers}
+use Rattle.session.specs.Answer.{standing}
 use Rattle.session.specs.Laws.Ends.{settled_by, settles}
 use Rattle.session.specs.declared.Session.{Session}
 use Rattle.session.specs.declared.Reply.{Reply}
@@ -42,7 +42,7 @@ use Rattle.abi_calls.specs.declared.Given.TheVariants as G
 use Rattle.abi_calls.specs.declared.Ordered.TheVariants as O
 use Rattle.abi_words.specs.Words.{words_from, phase_at, state_of, session_of, KeepsState, KeepsSession}
 use Rattle.abi_words.specs.Numbers.{next_numbers}
-use Rattle.abi_steps.specs.Engine.{Told, Refuses, EngineStarted, under_way}
+use Rattle.abi_steps.specs.Engine.{Told, Refuses, EngineStarted}
 use Rattle.abi_steps.specs.Laws.Takes.{Takes}
 use Rattle.bazkondur.specs.Linked.{SessionSays, Begun, Begins, GoesOn, EngineBegins, NewSession, NewEngine}
 
