@@ -1,5 +1,5 @@
 -- Calls 12, 14, 32 and 35 write nothing to what they are lent, so that a caller may lend what he shares.
-use Prim.Native.Nat.{ℕ, zero, suc, ◌+◌, ◌-◌, ◌*◌, ◌%◌}
+use Prim.Native.Nat.{ℕ, zero, suc, ◌+◌, ◌-◌, ◌*◌, ◌/◌, ◌%◌}
 use Rattle.std.specs.Prelude.{Bool, true, false, cond, List, ◌≡◌, eqb, leb, length}
 use Rattle.std.proofs.Math.Path.{refl}
 use Rattle.wire.specs.Wire.{Wire, Memory, memory_of}
@@ -21,7 +21,8 @@ use Rattle.wire_memap.specs.declared.Op.TheVariants as O
 use Rattle.call.specs.Change.{changed}
 use Rattle.call.specs.Job.{Job, ends, op, keep, exec, attempt, or_fail, return, just}
 use Rattle.call.specs.Job as J
-use Rattle.call_memory.specs.Memory.{turns, turn, moved, memory_job}
+use Rattle.call.specs.declared.Change.TheVariants as C
+use Rattle.call_memory.specs.Memory.{turns, turn, moved, whole, run_words, part_bytes, move_words, move_part, memory_job}
 use Rattle.call_memory.specs.declared.MemoryCall.TheVariants as M
 use Rattle.call_nrf.specs.Nrf.{wait_ready, runs, nrf_job}
 use Rattle.call_nrf.specs.declared.NrfCall.TheVariants as N
@@ -80,7 +81,7 @@ module _ (Q : Memory → Type 0) (known : (m : Memory) (r : Remembered) → Q m 
   frame_write addr word = frame_bind _ _ (frame_transfer _ word) (λ _. frame_return 0)
 
   frame_select : (addr : ℕ) → Frames (P.select_ap_bank addr)
-  frame_select addr k m q f = frame_cond _ _ _ (frame_return 0) (frame_bind _ _ (frame_write _ _) (λ _. frame_remember _)) k m q f
+  frame_select addr k m q f = frame_cond _ _ _ (frame_return 0) (frame_bind _ _ (frame_write P.SELECT (P.select_of m.remembered addr)) (λ _. frame_remember (P.selected (P.select_of m.remembered addr)))) k m q f
 
   frame_access : (request addr word : ℕ) → Frames (P.ap_access request addr word)
   frame_access request addr word = frame_bind _ _ (frame_select addr) (λ _. frame_transfer request word)
@@ -89,11 +90,11 @@ module _ (Q : Memory → Type 0) (known : (m : Memory) (r : Remembered) → Q m 
   frame_ap_write addr word = frame_bind _ _ (frame_access _ addr word) (λ _. frame_return 0)
 
   frame_csw : (wanted : ℕ) → Frames (P.ensure_csw wanted)
-  frame_csw wanted k m q f = frame_cond _ _ _ (frame_return 0) (frame_bind _ _ (frame_ap_write _ _) (λ _. frame_remember _)) k m q f
+  frame_csw wanted k m q f = frame_cond _ _ _ (frame_return 0) (frame_bind _ _ (frame_ap_write P.CSW wanted) (λ _. frame_remember P.csw_known)) k m q f
 
   -- at an address, CSW and TAR go before
   frame_at : (addr : ℕ) (p : Action) → Frames p → Frames (A.◌>>◌ (P.ensure_csw P.CSW_DEFAULT) (A.◌>>◌ (P.ap_write P.TAR addr) p))
-  frame_at addr p h = frame_bind _ _ (frame_csw _) (λ _. frame_bind _ _ (frame_ap_write _ addr) (λ _. h))
+  frame_at addr p h = frame_bind _ _ (frame_csw _) (λ _. frame_bind _ _ (frame_ap_write P.TAR addr) (λ _. h))
 
   frame_flush : Frames W.flush
   frame_flush = frame_bind _ _ (frame_transfer _ 0) (λ _. frame_return 0)
@@ -105,15 +106,15 @@ module _ (Q : Memory → Type 0) (known : (m : Memory) (r : Remembered) → Q m 
 
   frame_words : (addr n last : ℕ) → Frames (perform (O.WriteWords addr n last))
   unfolding perform
-  frame_words addr n last = frame_at addr _ (λ k m q f. frame_bind _ _ (frame_access _ _ _) (λ _. frame_push last (n - 1)) k m q f)
+  frame_words addr n last = frame_at addr _ (λ k m q f. frame_bind _ _ (frame_access (P.ap_writing P.DRW) P.DRW (W.row_at (last - (n - 1)) m)) (λ _. frame_push last (n - 1)) k m q f)
 
   frame_read : (addr : ℕ) → Frames (perform (O.ReadWord addr))
   unfolding perform
-  frame_read addr = frame_at addr _ (frame_bind _ _ (frame_access _ _ 0) (λ _. frame_transfer _ 0))
+  frame_read addr = frame_at addr _ (frame_bind _ _ (frame_access (P.ap_reading P.DRW) P.DRW 0) (λ _. frame_transfer (P.dp_reading P.RDBUFF) 0))
 
   frame_word : (addr word : ℕ) → Frames (perform (O.WriteWord addr word))
   unfolding perform
-  frame_word addr word = frame_at addr _ (frame_bind _ _ (frame_ap_write _ word) (λ _. frame_flush))
+  frame_word addr word = frame_at addr _ (frame_bind _ _ (frame_ap_write P.DRW word) (λ _. frame_flush))
 
   -- a job keeps it, if its operations and changes do
   abbrev Keeps : Job → Type 0
@@ -121,14 +122,16 @@ module _ (Q : Memory → Type 0) (known : (m : Memory) (r : Remembered) → Q m 
   Keeps (op w good bad) = Frames (perform w) × ((v : ℕ) → Keeps (good v)) × ((e : ArmError) → Keeps (bad e))
   Keeps (keep c j) = ((m : Memory) → Q m → Q (changed c m)) × Keeps j
 
+  keeps_either : (good : ℕ → Job) (bad : ArmError → Job) → ((v : ℕ) (m : Memory) → Q m → Everywhere Q (exec (good v) m))
+      → ((e : ArmError) (m : Memory) → Q m → Everywhere Q (exec (bad e) m)) → Fine (J.either (λ v. exec (good v)) (λ e. exec (bad e)))
+  keeps_either good bad g b m (Value v) q = g v m q
+  keeps_either good bad g b m (Failed e) q = b e m q
+
   keeps_exec : (j : Job) → Keeps j → (m : Memory) → Q m → Everywhere Q (exec j m)
   unfolding exec
   keeps_exec (ends o) g m q = q
-  keeps_exec (op w good bad) g m q = g.0 (J.either (λ v. exec (good v)) (λ e. exec (bad e))) m q by_outcome
-    where
-      by_outcome : Fine (J.either (λ v. exec (good v)) (λ e. exec (bad e)))
-      by_outcome m (Value v) q = keeps_exec (good v) (g.1 v) m q
-      by_outcome m (Failed e) q = keeps_exec (bad e) (g.2 e) m q
+  keeps_exec (op w good bad) g m q = g.0 (J.either (λ v. exec (good v)) (λ e. exec (bad e))) m q
+      (keeps_either good bad (λ v. keeps_exec (good v) (g.1 v)) (λ e. keeps_exec (bad e) (g.2 e)))
   keeps_exec (keep c j) g m q = keeps_exec j g.1 (changed c m) (g.0 m q)
 
   keeps_attempt : (j : Job) (k : Outcome → Job) → Keeps j → ((o : Outcome) → Keeps (k o)) → Keeps (attempt j k)
@@ -153,14 +156,14 @@ module _ (Q : Memory → Type 0) (known : (m : Memory) (r : Remembered) → Q m 
   keeps_wait : (ready n : ℕ) → Keeps (wait_ready ready n)
   unfolding wait_ready
   keeps_wait ready zero = tt
-  keeps_wait ready (suc n) = keeps_then _ _ (keeps_just _ (frame_read ready)) (λ v. keeps_cond _ _ _ tt (keeps_wait ready n))
+  keeps_wait ready (suc n) = keeps_then (just (O.ReadWord ready)) (λ x'. cond (eqb (x' % 2) 1) (return 0) (wait_ready ready n)) (keeps_just _ (frame_read ready)) (λ v. keeps_cond (eqb (v % 2) 1) (return 0) _ tt (keeps_wait ready n))
 
   keeps_runs : (settle : Job) → Keeps settle → (stop len left passed : ℕ) → Keeps (runs settle stop len left passed)
   unfolding runs
   keeps_runs settle h stop len zero passed = tt
   keeps_runs settle h stop len (suc left) (suc passed) = keeps_runs settle h stop len left passed
   keeps_runs settle h stop len (suc left) zero =
-      keeps_then _ _ (keeps_just _ (frame_words _ _ _)) (λ _. keeps_then _ _ h (λ _. keeps_runs settle h stop len left _))
+      keeps_then (just (O.WriteWords (stop - 4 * suc left) (W.tar_run (stop - 4 * suc left) (suc left)) (len - suc left + (W.tar_run (stop - 4 * suc left) (suc left) - 1)))) _ (keeps_just _ (frame_words (stop - 4 * suc left) (W.tar_run (stop - 4 * suc left) (suc left)) (len - suc left + (W.tar_run (stop - 4 * suc left) (suc left) - 1)))) (λ _. keeps_then _ _ h (λ _. keeps_runs settle h stop len left (W.tar_run (stop - 4 * suc left) (suc left) - 1)))
 
 -- the words of calls 12, 32 and 35
 module _ (words : List ℕ) where
@@ -173,23 +176,23 @@ module _ (words : List ℕ) where
   pub write_words_shares : (addr : ℕ) (r : Remembered) (room buf : List ℕ) → Everywhere Same (call_tree (E.Memory (M.WriteWords addr)) r room words buf)
   unfolding memory_job
   write_words_shares addr r room buf = keeps_exec Same known (memory_job (M.WriteWords addr) (length words) (length buf))
-      (keeps_cond Same known _ _ _ tt (keeps_cond Same known _ _ _ tt (keeps_just Same known _ (frame_words Same known addr _ _)))) _ refl
+      (keeps_cond Same known (leb 4294967296 (length {A = ℕ} words)) (J.fail Rattle.wire.specs.declared.ArmError.TheVariants.Range) (cond (eqb (length {A = ℕ} words) 0) (return 0) (just (O.WriteWords addr (length {A = ℕ} words) (length {A = ℕ} words - 1)))) tt (keeps_cond Same known (eqb (length {A = ℕ} words) 0) (return 0) (just (O.WriteWords addr (length {A = ℕ} words) (length {A = ℕ} words - 1))) tt (keeps_just Same known _ (frame_words Same known addr (length {A = ℕ} words) (length {A = ℕ} words - 1))))) _ refl
 
   pub nrf52_program_shares : (addr polls : ℕ) (r : Remembered) (room buf : List ℕ) → Everywhere Same (call_tree (E.Nrf (N.Nrf52Program addr polls)) r room words buf)
   unfolding nrf_job
   nrf52_program_shares addr polls r room buf = keeps_exec Same known (nrf_job (N.Nrf52Program addr polls) (length words))
-      (keeps_cond Same known _ _ _ tt (keeps_cond Same known _ _ _ (keeps_cond Same known _ _ _ tt
-      (keeps_then Same known _ _ (keeps_just Same known _ (frame_word Same known _ _)) (λ _. keeps_then Same known _ _ (keeps_wait Same known _ polls)
-      (λ _. keeps_then Same known _ _ (keeps_runs Same known _ (keeps_wait Same known _ polls) _ _ _ 0)
-      (λ _. keeps_then Same known _ _ (keeps_just Same known _ (frame_word Same known _ _)) (λ _. tt)))))) tt)) _ refl
+      (keeps_cond Same known (eqb (length {A = ℕ} words) 0) (return 0) (cond (eqb (addr % 4) 0) (cond (leb 4294967296 (addr + 4 * length {A = ℕ} words)) (J.fail Rattle.wire.specs.declared.ArmError.TheVariants.Range) (J.◌>>=◌ (just (O.WriteWord 1073865988 1)) (λ x'. J.◌>>=◌ (wait_ready 1073865728 polls) (λ x''. J.◌>>=◌ (runs (wait_ready 1073865728 polls) (addr + 4 * length {A = ℕ} words) (length {A = ℕ} words) (length {A = ℕ} words) 0) (λ x3. J.◌>>=◌ (just (O.WriteWord 1073865988 0)) (λ x4. return 0)))))) (J.fail Rattle.wire.specs.declared.ArmError.TheVariants.Align)) tt (keeps_cond Same known (eqb (addr % 4) 0) (cond (leb 4294967296 (addr + 4 * length {A = ℕ} words)) (J.fail Rattle.wire.specs.declared.ArmError.TheVariants.Range) (J.◌>>=◌ (just (O.WriteWord 1073865988 1)) (λ x'. J.◌>>=◌ (wait_ready 1073865728 polls) (λ x''. J.◌>>=◌ (runs (wait_ready 1073865728 polls) (addr + 4 * length {A = ℕ} words) (length {A = ℕ} words) (length {A = ℕ} words) 0) (λ x3. J.◌>>=◌ (just (O.WriteWord 1073865988 0)) (λ x4. return 0)))))) (J.fail Rattle.wire.specs.declared.ArmError.TheVariants.Align) (keeps_cond Same known (leb 4294967296 (addr + 4 * length {A = ℕ} words)) (J.fail Rattle.wire.specs.declared.ArmError.TheVariants.Range) (J.◌>>=◌ (just (O.WriteWord 1073865988 1)) (λ x'. J.◌>>=◌ (wait_ready 1073865728 polls) (λ x''. J.◌>>=◌ (runs (wait_ready 1073865728 polls) (addr + 4 * length {A = ℕ} words) (length {A = ℕ} words) (length {A = ℕ} words) 0) (λ x3. J.◌>>=◌ (just (O.WriteWord 1073865988 0)) (λ x4. return 0))))) tt
+      (keeps_then Same known (just (O.WriteWord 1073865988 1)) _ (keeps_just Same known _ (frame_word Same known 1073865988 1)) (λ _. keeps_then Same known _ _ (keeps_wait Same known 1073865728 polls)
+      (λ _. keeps_then Same known _ (λ x'. J.◌>>=◌ (just (O.WriteWord 1073865988 0)) (λ x''. return 0)) (keeps_runs Same known _ (keeps_wait Same known 1073865728 polls) (addr + 4 * length {A = ℕ} words) (length {A = ℕ} words) (length {A = ℕ} words) 0)
+      (λ _. keeps_then Same known (just (O.WriteWord 1073865988 0)) (λ x'. return 0) (keeps_just Same known _ (frame_word Same known 1073865988 0)) (λ _. tt)))))) tt)) _ refl
 
   pub nrf54_program_shares : (addr polls : ℕ) (r : Remembered) (room buf : List ℕ) → Everywhere Same (call_tree (E.Nrf (N.Nrf54Program addr polls)) r room words buf)
   unfolding nrf_job
   nrf54_program_shares addr polls r room buf = keeps_exec Same known (nrf_job (N.Nrf54Program addr polls) (length words))
-      (keeps_cond Same known _ _ _ tt (keeps_cond Same known _ _ _ (keeps_cond Same known _ _ _ tt
-      (keeps_then Same known _ _ (keeps_just Same known _ (frame_word Same known _ _)) (λ _. keeps_then Same known _ _ (keeps_runs Same known (return 0) tt _ _ _ 0)
-      (λ _. keeps_then Same known _ _ (keeps_just Same known _ (frame_word Same known _ _)) (λ _. keeps_then Same known _ _ (keeps_wait Same known _ polls)
-      (λ _. keeps_then Same known _ _ (keeps_just Same known _ (frame_word Same known _ _)) (λ _. tt))))))) tt)) _ refl
+      (keeps_cond Same known (eqb (length {A = ℕ} words) 0) (return 0) (cond (eqb (addr % 4) 0) (cond (leb 4294967296 (addr + 4 * length {A = ℕ} words)) (J.fail Rattle.wire.specs.declared.ArmError.TheVariants.Range) (J.◌>>=◌ (just (O.WriteWord 1074050304 1)) (λ x'. J.◌>>=◌ (runs (return 0) (addr + 4 * length {A = ℕ} words) (length {A = ℕ} words) (length {A = ℕ} words) 0) (λ x''. J.◌>>=◌ (just (O.WriteWord 1074049032 1)) (λ x3. J.◌>>=◌ (wait_ready 1074050048 polls) (λ x4. J.◌>>=◌ (just (O.WriteWord 1074050304 0)) (λ x5. return 0))))))) (J.fail Rattle.wire.specs.declared.ArmError.TheVariants.Align)) tt (keeps_cond Same known (eqb (addr % 4) 0) (cond (leb 4294967296 (addr + 4 * length {A = ℕ} words)) (J.fail Rattle.wire.specs.declared.ArmError.TheVariants.Range) (J.◌>>=◌ (just (O.WriteWord 1074050304 1)) (λ x'. J.◌>>=◌ (runs (return 0) (addr + 4 * length {A = ℕ} words) (length {A = ℕ} words) (length {A = ℕ} words) 0) (λ x''. J.◌>>=◌ (just (O.WriteWord 1074049032 1)) (λ x3. J.◌>>=◌ (wait_ready 1074050048 polls) (λ x4. J.◌>>=◌ (just (O.WriteWord 1074050304 0)) (λ x5. return 0))))))) (J.fail Rattle.wire.specs.declared.ArmError.TheVariants.Align) (keeps_cond Same known (leb 4294967296 (addr + 4 * length {A = ℕ} words)) (J.fail Rattle.wire.specs.declared.ArmError.TheVariants.Range) (J.◌>>=◌ (just (O.WriteWord 1074050304 1)) (λ x'. J.◌>>=◌ (runs (return 0) (addr + 4 * length {A = ℕ} words) (length {A = ℕ} words) (length {A = ℕ} words) 0) (λ x''. J.◌>>=◌ (just (O.WriteWord 1074049032 1)) (λ x3. J.◌>>=◌ (wait_ready 1074050048 polls) (λ x4. J.◌>>=◌ (just (O.WriteWord 1074050304 0)) (λ x5. return 0)))))) tt
+      (keeps_then Same known (just (O.WriteWord 1074050304 1)) _ (keeps_just Same known _ (frame_word Same known 1074050304 1)) (λ _. keeps_then Same known _ (λ x'. J.◌>>=◌ (just (O.WriteWord 1074049032 1)) (λ x''. J.◌>>=◌ (wait_ready 1074050048 polls) (λ x3. J.◌>>=◌ (just (O.WriteWord 1074050304 0)) (λ x4. return 0)))) (keeps_runs Same known (return 0) tt (addr + 4 * length {A = ℕ} words) (length {A = ℕ} words) (length {A = ℕ} words) 0)
+      (λ _. keeps_then Same known (just (O.WriteWord 1074049032 1)) _ (keeps_just Same known _ (frame_word Same known 1074049032 1)) (λ _. keeps_then Same known _ (λ x'. J.◌>>=◌ (just (O.WriteWord 1074050304 0)) (λ x''. return 0)) (keeps_wait Same known 1074050048 polls)
+      (λ _. keeps_then Same known (just (O.WriteWord 1074050304 0)) (λ x'. return 0) (keeps_just Same known _ (frame_word Same known 1074050304 0)) (λ _. tt))))))) tt)) _ refl
 
 -- the buffer of call 14
 module _ (buf : List ℕ) where
@@ -199,16 +202,29 @@ module _ (buf : List ℕ) where
   known_buf : (m : Memory) (r : Remembered) → SameBuf m → SameBuf (remembering m r)
   known_buf m r q = q
 
+  keeps_words : (a at n : ℕ) → Keeps SameBuf known_buf (move_words false a at n)
+  keeps_words a at n = ((λ m q. q), keeps_just SameBuf known_buf (O.WriteWords a n (n - 1)) (frame_words SameBuf known_buf a n (n - 1)))
+
+  keeps_part : (a at count : ℕ) → Keeps SameBuf known_buf (move_part false a at count)
+  keeps_part a at count = let word : ℕ = a - a % 4 in
+      keeps_then SameBuf known_buf (just (O.ReadWord word)) (λ v. keep (C.Patch at (a % 4) count v) (just (O.WriteWords word 1 0)))
+      (keeps_just SameBuf known_buf (O.ReadWord word) (frame_read SameBuf known_buf word))
+      (λ v. ((λ m q. q), keeps_just SameBuf known_buf (O.WriteWords word 1 0) (frame_words SameBuf known_buf word 1 0)))
+
+  keeps_turn : (a at left : ℕ) → Keeps SameBuf known_buf (turn false a at left)
+  keeps_turn a at left = keeps_cond SameBuf known_buf (whole a left) (move_words false a at (run_words a (left / 4)))
+      (move_part false a at (part_bytes a left)) (keeps_words a at (run_words a (left / 4))) (keeps_part a at (part_bytes a left))
+
   keeps_turns : (fuel stop len left : ℕ) → Keeps SameBuf known_buf (turns fuel false stop len left)
   unfolding turns
   keeps_turns zero stop len left = tt
-  keeps_turns (suc fuel) stop len left = keeps_cond SameBuf known_buf _ _ _ tt (keeps_then SameBuf known_buf _ _
-      (keeps_cond SameBuf known_buf _ _ _ ((λ m q. q), keeps_just SameBuf known_buf _ (frame_words SameBuf known_buf _ _ _))
-      (keeps_then SameBuf known_buf _ _ (keeps_just SameBuf known_buf _ (frame_read SameBuf known_buf _))
-      (λ v. ((λ m q. q), keeps_just SameBuf known_buf _ (frame_words SameBuf known_buf _ _ _)))))
-      (λ _. keeps_turns fuel stop len _))
+  keeps_turns (suc fuel) stop len left =
+      let next : ℕ → Job = λ _. turns fuel false stop len (left - moved (stop - left) left) in
+      keeps_cond SameBuf known_buf (eqb left 0) (return 0) (J.◌>>=◌ (turn false (stop - left) (len - left) left) next) tt
+      (keeps_then SameBuf known_buf (turn false (stop - left) (len - left) left) next (keeps_turn (stop - left) (len - left) left)
+      (λ _. keeps_turns fuel stop len (left - moved (stop - left) left)))
 
   pub write_mem_shares : (addr : ℕ) (r : Remembered) (room words : List ℕ) → Everywhere SameBuf (call_tree (E.Memory (M.WriteMem addr)) r room words buf)
   unfolding memory_job
   write_mem_shares addr r room words = keeps_exec SameBuf known_buf (memory_job (M.WriteMem addr) (length words) (length buf))
-      (keeps_cond SameBuf known_buf _ _ _ tt (keeps_turns _ _ _ _)) _ refl
+      (keeps_cond SameBuf known_buf (leb 4294967296 (addr + length {A = ℕ} buf)) (J.fail Rattle.wire.specs.declared.ArmError.TheVariants.Range) _ tt (keeps_turns (length {A = ℕ} buf) (addr + length {A = ℕ} buf) (length {A = ℕ} buf) (length {A = ℕ} buf))) _ refl
