@@ -1,5 +1,4 @@
 -- What holds of the memory wherever a call may stand: at each transport call, whatever was answered before, and at its end.
-use Rattle.std.specs.Prelude.{◌≡◌}
 use Rattle.wire.specs.Wire.{Wire, Memory, done, ask, tell}
 use Rattle.wire.specs.declared.Answer.{Answer}
 

@@ -2,7 +2,7 @@
 use Prim.Native.Nat.{ℕ, zero, suc, ◌+◌, ◌-◌, ◌*◌, ◌/◌, ◌%◌}
 use Rattle.std.specs.Prelude.{Bool, true, false, cond, List, ◌≡◌, eqb, leb, length}
 use Rattle.std.proofs.Math.Path.{refl}
-use Rattle.wire.specs.Wire.{Wire, Memory, memory_of}
+use Rattle.wire.specs.Wire.{Wire, Memory}
 use Rattle.wire.specs.declared.Answer.{Answer}
 use Rattle.wire.specs.declared.Answer.TheVariants.{Good, SwdError, NotSupported, Other}
 use Rattle.wire.specs.declared.ArmError.{ArmError}
