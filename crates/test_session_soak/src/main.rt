@@ -6,8 +6,8 @@
 
 ghost use Rattle.std.specs.Prelude.{◌≤◌};
 
-use target::{Delivered, Target};
 use session::{Reply, Session, SessionAnswer, SessionEnding, SessionNext};
+use target::{Delivered, Target};
 use test_soak::{Asked, CONNECT, WRITE};
 use wire::{Answer, Call, Remembered};
 use wire_numbers::TransportCall;
