@@ -1,4 +1,4 @@
-// A loop in C or Rust over the exported functions is a caller's loop over the session: proved in specs/ of what these functions ensure.
+// A loop in C or Rust over the exported functions is a caller's loop over the session: proved in proofs/ of what these functions ensure.
 // This function only makes it a crate.
 #![tactic(auto)]
 

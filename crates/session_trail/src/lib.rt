@@ -1,4 +1,4 @@
-// Demand 3 of a caller's loops over start and step, proved in specs/ of what these two ensure. This function only makes it a crate.
+// Demand 3 of a caller's loops over start and step, proved in proofs/ of what these two ensure. This function only makes it a crate.
 #![tactic(auto)]
 
 ghost use Rattle.std.specs.Prelude.{◌≡◌};
