@@ -5,8 +5,8 @@
 ghost use Rattle.std.specs.Prelude.{◌≤◌};
 
 use list_form::{ANSWER_BYTES, ANSWERS, FAULT_BYTES};
-use target::{Act, Loss};
 use script_form::{byte, half, word};
+use target::{Act, Loss};
 use wire::Answer;
 
 // No target has more memory.
