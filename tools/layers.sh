@@ -81,7 +81,7 @@ awk '
 # the layer of a crate, by its prefix
 function layer_of(name) {
     sub(/_.*/, "", name)
-    return name == "wire" ? 1 : name ~ /^(call|engine)$/ ? 2 : name ~ /script$/ ? 3 : name == "target" ? 4 : name ~ /^(session|agreement)$/ ? 5 : name ~ /^(list|dapsession)$/ ? 6 : name ~ /^(abi|bazkondur)$/ ? 7 : 8
+    return name == "slots" ? 1 : name == "wire" ? 2 : name ~ /^(call|engine)$/ ? 3 : name ~ /script$/ ? 4 : name == "target" ? 5 : name ~ /^(session|agreement)$/ ? 6 : name ~ /^(list|dapsession)$/ ? 7 : name ~ /^(abi|bazkondur)$/ ? 8 : 9
 }
 /^[a-z]/ {
     sub(/ staticlib:/, ":")
@@ -94,7 +94,7 @@ function layer_of(name) {
     for (pair in deep) { split(pair, ends, SUBSEP); if (ends[1] == name) below[pair] = 1 }
 }
 END {
-    split("the wire|calls|the script|the model target|the session, and demand 3|lists of session calls|what C and Rust link|cases, tests, benchmark", title, "|")
+    split("below all|the wire|calls|the script|the model target|the session, and demand 3|lists of session calls|what C and Rust link|cases, tests, benchmark", title, "|")
     for (k = 1; k in title; k++) {
         print (k > 1 ? "\n" : "") title[k]
         for (l = 1; l <= lines; l++) {

@@ -1,301 +1,184 @@
 // The calls as they come from another language: 01's number, and words for arguments. The engine's 35, and those that a session admits.
 #![tactic(auto)]
 
-ghost use Rattle.std.specs.Prelude.{◌≡◌, ◌≤◌, ◌%◌, get_or};
-ghost use Rattle.abi_calls.specs.Given.{takes as Given·takes, narrow as Given·narrow, function_of, frame_of, engine_call_of};
+ghost use Rattle.std.specs.Prelude.{◌≡◌, ◌≤◌};
+ghost use Rattle.std.specs.Option.{option_map};
+ghost use Rattle.abi_calls.specs.Given.{engine_call_of};
 ghost use Rattle.abi_calls.specs.Given.{connect_admitted, memory_admitted, call_admitted, session_call_of};
 
 use call_connect::ConnectCall;
-use call_core::{CallFrame, CoreCall, Function};
+use call_core::CoreCall;
 use call_fpb::FpbCall;
 use call_memory::MemoryCall;
 use call_nrf::NrfCall;
 use engine_calls::EngineCall;
 use session_calls::SessionCall;
 
-// The engine's call that number and words stand for, or that there is none.
-#[derive(Clone, Copy)]
-pub enum Given {
-    Bad,
-    Asked(EngineCall),
-}
-
-// The same for a call of the session.
-#[derive(Clone, Copy)]
-pub enum Ordered {
-    Bad,
-    Asked(SessionCall),
-}
-
-// Word i of the arguments; 0 where there is none.
-fn word(a: &[u32], i: usize) -> u32
-    ensures { result ≡ get_or a.now i 0 }
+// Stays: 01's numbers, here and below, as C hands them to bazkondur_start; an enum of numbers would say the 35 names once more.
+// The call of a number and its words.
+pub fn engine_call_of(number: u32, args: &[u32]) -> Option<EngineCall>
+    ensures { result ≡ engine_call_of number args.now }
 {
-    if i < a.len() {
-        return a[i];
-    }
-    0
+    let call = match number {
+        1..=5 => connect_call(number, args)?.into(),
+        6..=14 => memory_call(number, args)?.into(),
+        15..=21 => core_call(number, args)?.into(),
+        22..=25 => function_call(number, args)?.into(),
+        26..=28 => fpb_call(number, args)?.into(),
+        29..=35 => nrf_call(number, args)?.into(),
+        _ => return None,
+    };
+    Some(call)
 }
 
-// The same as a byte.
-fn byte(a: &[u32], i: usize) -> u8
-    ensures { result ≡ get_or a.now i 0 % 256 }
+// Calls 1 to 5.
+fn connect_call(number: u32, args: &[u32]) -> Option<ConnectCall>
+    requires least { 1 ≤ number }
+    requires most { number ≤ 5 }
+    ensures { option_map (λ q. EngineCall.Connect q) result ≡ engine_call_of number args.now }
 {
-    (word(a, i) % 256) as u8
-}
-
-// Exactly `count` words.
-fn takes(a: &[u32], count: usize, c: EngineCall) -> Given
-    ensures { result ≡ Given·takes a.now count c }
-{
-    if a.len() == count {
-        return Given::Asked(c);
-    }
-    Given::Bad
-}
-
-// The same where word i is a byte.
-fn narrow(a: &[u32], i: usize, g: Given) -> Given
-    ensures { result ≡ Given·narrow a.now i g }
-{
-    if word(a, i) <= 255 {
-        return g;
-    }
-    Given::Bad
-}
-
-fn connect(a: &[u32], count: usize, c: ConnectCall) -> Given
-    ensures { result ≡ Given·takes a.now count (EngineCall.Connect c) }
-{
-    takes(a, count, EngineCall::Connect(c))
-}
-
-fn memory(a: &[u32], count: usize, c: MemoryCall) -> Given
-    ensures { result ≡ Given·takes a.now count (EngineCall.Memory c) }
-{
-    takes(a, count, EngineCall::Memory(c))
-}
-
-fn core(a: &[u32], count: usize, c: CoreCall) -> Given
-    ensures { result ≡ Given·takes a.now count (EngineCall.Core c) }
-{
-    takes(a, count, EngineCall::Core(c))
-}
-
-fn fpb(a: &[u32], c: FpbCall) -> Given
-    ensures { result ≡ Given·takes a.now 1 (EngineCall.Fpb c) }
-{
-    takes(a, 1, EngineCall::Fpb(c))
-}
-
-fn nrf(a: &[u32], count: usize, c: NrfCall) -> Given
-    ensures { result ≡ Given·takes a.now count (EngineCall.Nrf c) }
-{
-    takes(a, count, EngineCall::Nrf(c))
-}
-
-// The function of calls 23 and 25.
-fn function_at(a: &[u32]) -> Function
-    ensures { result ≡ function_of a.now }
-{
-    Function {
-        fn_addr: word(a, 0),
-        a0: word(a, 1),
-        a1: word(a, 2),
-        a2: word(a, 3),
-        a3: word(a, 4),
-        sp: word(a, 5),
-        trampoline: word(a, 6),
+    match (number, args) {
+        (1, &[targetsel]) => Some(ConnectCall::ConnectMultidrop(targetsel)),
+        (2, []) => Some(ConnectCall::ProbeSwd),
+        (3, []) => Some(ConnectCall::ConnectSwd),
+        (4, &[wait_us]) => Some(ConnectCall::ResetPulse(wait_us)),
+        (5, &[targetsel]) => Some(ConnectCall::Reselect(targetsel)),
+        _ => None,
     }
 }
 
-// The frame of call 24.
-fn frame_at(a: &[u32]) -> CallFrame
-    ensures { result ≡ frame_of a.now }
+// Calls 6 to 14: those on the memory access port, and on memory.
+fn memory_call(number: u32, args: &[u32]) -> Option<MemoryCall>
+    requires least { 6 ≤ number }
+    requires most { number ≤ 14 }
+    ensures { option_map (λ q. EngineCall.Memory q) result ≡ engine_call_of number args.now }
 {
-    CallFrame {
-        r0: word(a, 0),
-        r1: word(a, 1),
-        r2: word(a, 2),
-        r3: word(a, 3),
-        sp: word(a, 4),
-        lr: word(a, 5),
-        pc: word(a, 6),
-        xpsr: word(a, 7),
+    match (number, args) {
+        (6, &[apsel @ ..=255]) => Some(MemoryCall::SetApsel(apsel as u8)),
+        (7, &[addr @ ..=255]) => Some(MemoryCall::ApRegRead(addr as u8)),
+        (8, &[addr @ ..=255, word]) => Some(MemoryCall::ApRegWrite(addr as u8, word)),
+        (9, &[addr]) => Some(MemoryCall::ReadWord(addr)),
+        (10, &[addr, word]) => Some(MemoryCall::WriteWord(addr, word)),
+        (11, &[addr]) => Some(MemoryCall::ReadWords(addr)),
+        (12, &[addr]) => Some(MemoryCall::WriteWords(addr)),
+        (13, &[addr]) => Some(MemoryCall::ReadMem(addr)),
+        (14, &[addr]) => Some(MemoryCall::WriteMem(addr)),
+        _ => None,
     }
 }
 
-// The call of a number and its words: calls 1 to 5, or a later group's.
-pub fn engine_call_of(number: u32, a: &[u32]) -> Given
-    ensures { result ≡ engine_call_of number a.now }
+// Calls 15 to 21.
+fn core_call(number: u32, args: &[u32]) -> Option<CoreCall>
+    requires least { 15 ≤ number }
+    requires most { number ≤ 21 }
+    ensures { option_map (λ q. EngineCall.Core q) result ≡ engine_call_of number args.now }
 {
-    match number {
-        0 => Given::Bad,
-        1 => connect(a, 1, ConnectCall::ConnectMultidrop(word(a, 0))),
-        2 => connect(a, 0, ConnectCall::ProbeSwd),
-        3 => connect(a, 0, ConnectCall::ConnectSwd),
-        4 => connect(a, 1, ConnectCall::ResetPulse(word(a, 0))),
-        5 => connect(a, 1, ConnectCall::Reselect(word(a, 0))),
-        _ => ap_call(number, a),
+    match (number, args) {
+        (15, []) => Some(CoreCall::DebugEnable),
+        (16, []) => Some(CoreCall::Halt),
+        (17, []) => Some(CoreCall::Resume),
+        (18, []) => Some(CoreCall::Step),
+        (19, []) => Some(CoreCall::IsHalted),
+        (20, &[reg @ ..=255]) => Some(CoreCall::ReadCoreReg(reg as u8)),
+        (21, &[reg @ ..=255, word]) => Some(CoreCall::WriteCoreReg(reg as u8, word)),
+        _ => None,
     }
 }
 
-// Calls 6 to 8, or a later group's.
-fn ap_call(number: u32, a: &[u32]) -> Given
-    requires { 6 ≤ number }
-    ensures { result ≡ engine_call_of number a.now }
+// Calls 22 to 25.
+fn function_call(number: u32, args: &[u32]) -> Option<CoreCall>
+    requires least { 22 ≤ number }
+    requires most { number ≤ 25 }
+    ensures { option_map (λ q. EngineCall.Core q) result ≡ engine_call_of number args.now }
 {
-    match number {
-        6 => narrow(a, 0, memory(a, 1, MemoryCall::SetApsel(byte(a, 0)))),
-        7 => narrow(a, 0, memory(a, 1, MemoryCall::ApRegRead(byte(a, 0)))),
-        8 => narrow(
-            a,
-            0,
-            memory(a, 2, MemoryCall::ApRegWrite(byte(a, 0), word(a, 1))),
-        ),
-        _ => memory_call(number, a),
+    match (number, args) {
+        (22, &[a @ ..=255, b @ ..=255]) => Some(CoreCall::RomFuncLookup(a as u8, b as u8)),
+        (23, &[fn_addr, a0, a1, a2, a3, sp, trampoline]) => {
+            let function = [fn_addr, a0, a1, a2, a3, sp, trampoline];
+            Some(CoreCall::StartFunction(function.into()))
+        }
+        (24, &[r0, r1, r2, r3, sp, lr, pc, xpsr, polls]) => {
+            let frame = [r0, r1, r2, r3, sp, lr, pc, xpsr];
+            Some(CoreCall::FinishFunction(frame.into(), polls))
+        }
+        (25, &[fn_addr, a0, a1, a2, a3, sp, trampoline, polls]) => {
+            let function = [fn_addr, a0, a1, a2, a3, sp, trampoline];
+            Some(CoreCall::CallFunction(function.into(), polls))
+        }
+        _ => None,
     }
 }
 
-// Calls 9 to 14, or a later group's.
-fn memory_call(number: u32, a: &[u32]) -> Given
-    requires { 9 ≤ number }
-    ensures { result ≡ engine_call_of number a.now }
+// Calls 26 to 28.
+fn fpb_call(number: u32, args: &[u32]) -> Option<FpbCall>
+    requires least { 26 ≤ number }
+    requires most { number ≤ 28 }
+    ensures { option_map (λ q. EngineCall.Fpb q) result ≡ engine_call_of number args.now }
 {
-    match number {
-        9 => memory(a, 1, MemoryCall::ReadWord(word(a, 0))),
-        10 => memory(a, 2, MemoryCall::WriteWord(word(a, 0), word(a, 1))),
-        11 => memory(a, 1, MemoryCall::ReadWords(word(a, 0))),
-        12 => memory(a, 1, MemoryCall::WriteWords(word(a, 0))),
-        13 => memory(a, 1, MemoryCall::ReadMem(word(a, 0))),
-        14 => memory(a, 1, MemoryCall::WriteMem(word(a, 0))),
-        _ => core_call(number, a),
+    match (number, args) {
+        (26, &[addr]) => Some(FpbCall::HwBreakpointSet(addr)),
+        (27, &[addr]) => Some(FpbCall::HwBreakpointClear(addr)),
+        (28, &[addr]) => Some(FpbCall::HwBreakpointAt(addr)),
+        _ => None,
     }
 }
 
-// Calls 15 to 21, or a later group's.
-fn core_call(number: u32, a: &[u32]) -> Given
-    requires { 15 ≤ number }
-    ensures { result ≡ engine_call_of number a.now }
+// Calls 29 to 35.
+fn nrf_call(number: u32, args: &[u32]) -> Option<NrfCall>
+    requires least { 29 ≤ number }
+    requires most { number ≤ 35 }
+    ensures { option_map (λ q. EngineCall.Nrf q) result ≡ engine_call_of number args.now }
 {
-    match number {
-        15 => core(a, 0, CoreCall::DebugEnable),
-        16 => core(a, 0, CoreCall::Halt),
-        17 => core(a, 0, CoreCall::Resume),
-        18 => core(a, 0, CoreCall::Step),
-        19 => core(a, 0, CoreCall::IsHalted),
-        20 => narrow(a, 0, core(a, 1, CoreCall::ReadCoreReg(byte(a, 0)))),
-        21 => narrow(
-            a,
-            0,
-            core(a, 2, CoreCall::WriteCoreReg(byte(a, 0), word(a, 1))),
-        ),
-        _ => function_call(number, a),
-    }
-}
-
-// Calls 22 to 25, or a later group's.
-fn function_call(number: u32, a: &[u32]) -> Given
-    requires { 22 ≤ number }
-    ensures { result ≡ engine_call_of number a.now }
-{
-    match number {
-        22 => narrow(
-            a,
-            0,
-            narrow(
-                a,
-                1,
-                core(a, 2, CoreCall::RomFuncLookup(byte(a, 0), byte(a, 1))),
-            ),
-        ),
-        23 => core(a, 7, CoreCall::StartFunction(function_at(a))),
-        24 => core(a, 9, CoreCall::FinishFunction(frame_at(a), word(a, 8))),
-        25 => core(a, 8, CoreCall::CallFunction(function_at(a), word(a, 7))),
-        _ => fpb_call(number, a),
-    }
-}
-
-// Calls 26 to 28, or a later group's.
-fn fpb_call(number: u32, a: &[u32]) -> Given
-    requires { 26 ≤ number }
-    ensures { result ≡ engine_call_of number a.now }
-{
-    match number {
-        26 => fpb(a, FpbCall::HwBreakpointSet(word(a, 0))),
-        27 => fpb(a, FpbCall::HwBreakpointClear(word(a, 0))),
-        28 => fpb(a, FpbCall::HwBreakpointAt(word(a, 0))),
-        _ => nrf_call(number, a),
-    }
-}
-
-// Calls 29 to 35; w and polls are the first two words.
-fn nrf_call(number: u32, a: &[u32]) -> Given
-    requires { 29 ≤ number }
-    ensures { result ≡ engine_call_of number a.now }
-{
-    let w = word(a, 0);
-    let polls = word(a, 1);
-    match number {
-        29 => nrf(a, 0, NrfCall::Nrf52ApprotectStatus),
-        30 => nrf(a, 1, NrfCall::Nrf52EraseAll(w)),
-        31 => nrf(a, 2, NrfCall::Nrf52ErasePage { addr: w, polls }),
-        32 => nrf(a, 2, NrfCall::Nrf52Program { addr: w, polls }),
-        33 => nrf(a, 0, NrfCall::Nrf54ApprotectStatus),
-        34 => nrf(a, 1, NrfCall::Nrf54EraseAll(w)),
-        35 => nrf(a, 2, NrfCall::Nrf54Program { addr: w, polls }),
-        _ => Given::Bad,
+    match (number, args) {
+        (29, []) => Some(NrfCall::Nrf52ApprotectStatus),
+        (30, &[polls]) => Some(NrfCall::Nrf52EraseAll(polls)),
+        (31, &[addr, polls]) => Some(NrfCall::Nrf52ErasePage { addr, polls }),
+        (32, &[addr, polls]) => Some(NrfCall::Nrf52Program { addr, polls }),
+        (33, []) => Some(NrfCall::Nrf54ApprotectStatus),
+        (34, &[polls]) => Some(NrfCall::Nrf54EraseAll(polls)),
+        (35, &[addr, polls]) => Some(NrfCall::Nrf54Program { addr, polls }),
+        _ => None,
     }
 }
 
 // Of the connects a session admits call 3,
-fn session_connect(c: ConnectCall) -> Ordered
+fn session_connect(c: ConnectCall) -> Option<SessionCall>
     ensures { result ≡ connect_admitted c }
 {
     match c {
-        ConnectCall::ConnectMultidrop(_) => Ordered::Bad,
-        ConnectCall::ProbeSwd => Ordered::Bad,
-        ConnectCall::ConnectSwd => Ordered::Asked(SessionCall::ConnectSwd),
-        ConnectCall::ResetPulse(_) => Ordered::Bad,
-        ConnectCall::Reselect(_) => Ordered::Bad,
+        ConnectCall::ConnectSwd => Some(SessionCall::ConnectSwd),
+        _ => None,
     }
 }
 
 // of calls 6 to 14 those on single words and on bytes.
-fn session_memory(c: MemoryCall) -> Ordered
+fn session_memory(c: MemoryCall) -> Option<SessionCall>
     ensures { result ≡ memory_admitted c }
 {
     match c {
-        MemoryCall::SetApsel(_) => Ordered::Bad,
-        MemoryCall::ApRegRead(_) => Ordered::Bad,
-        MemoryCall::ApRegWrite(_, _) => Ordered::Bad,
-        MemoryCall::ReadWord(addr) => Ordered::Asked(SessionCall::ReadWord(addr)),
-        MemoryCall::WriteWord(addr, w) => Ordered::Asked(SessionCall::WriteWord(addr, w)),
-        MemoryCall::ReadWords(_) => Ordered::Bad,
-        MemoryCall::WriteWords(_) => Ordered::Bad,
-        MemoryCall::ReadMem(addr) => Ordered::Asked(SessionCall::ReadMem(addr)),
-        MemoryCall::WriteMem(addr) => Ordered::Asked(SessionCall::WriteMem(addr)),
+        MemoryCall::ReadWord(addr) => Some(SessionCall::ReadWord(addr)),
+        MemoryCall::WriteWord(addr, w) => Some(SessionCall::WriteWord(addr, w)),
+        MemoryCall::ReadMem(addr) => Some(SessionCall::ReadMem(addr)),
+        MemoryCall::WriteMem(addr) => Some(SessionCall::WriteMem(addr)),
+        _ => None,
     }
 }
 
-fn session_call(c: EngineCall) -> Ordered
+fn session_call(c: EngineCall) -> Option<SessionCall>
     ensures { result ≡ call_admitted c }
 {
     match c {
         EngineCall::Connect(q) => session_connect(q),
         EngineCall::Memory(q) => session_memory(q),
-        EngineCall::Core(q) => Ordered::Asked(SessionCall::Core(q)),
-        EngineCall::Fpb(q) => Ordered::Asked(SessionCall::Fpb(q)),
-        EngineCall::Nrf(_) => Ordered::Bad,
+        EngineCall::Core(q) => Some(SessionCall::Core(q)),
+        EngineCall::Fpb(q) => Some(SessionCall::Fpb(q)),
+        EngineCall::Nrf(_) => None,
     }
 }
 
 // The call of a session that number and words stand for.
-pub fn session_call_of(number: u32, a: &[u32]) -> Ordered
-    ensures { result ≡ session_call_of number a.now }
+pub fn session_call_of(number: u32, args: &[u32]) -> Option<SessionCall>
+    ensures { result ≡ session_call_of number args.now }
 {
-    match engine_call_of(number, a) {
-        Given::Bad => Ordered::Bad,
-        Given::Asked(c) => session_call(c),
-    }
+    session_call(engine_call_of(number, args)?)
 }

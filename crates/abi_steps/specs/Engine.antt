@@ -2,7 +2,7 @@
 -- bytes of a sequence.
 use Rattle.std.specs.Prelude.{ℕ, Bool, true, false, List, [], ◌≡◌, length, drop}
 use Rattle.wire.specs.Bytes.{handed, padded}
-use Rattle.wire.specs.declared.Answer.{Answer}
+use Rattle.wire.specs.Outcomes.{Answer}
 use Rattle.wire.specs.declared.Call.{Call}
 use Rattle.wire_numbers.specs.Numbers.{numbers_of}
 use Rattle.wire_memap.specs.Laws.Doing.{remembered_of}
@@ -11,6 +11,7 @@ use Rattle.engine_calls.specs.declared.EngineCall.{EngineCall}
 use Rattle.engine_words.specs.Status.{running}
 use Rattle.engine.specs.Step as Engine
 use Rattle.engine.specs.declared.NextStep.{NextStep}
+use Rattle.wire_numbers.specs.declared.CallEnding.{CallEnding}
 use Rattle.engine.specs.declared.StepAnswer.{StepAnswer}
 use Rattle.session_calls.specs.Session.{Lent}
 use Rattle.abi_words.specs.Words.{words_from, state_of}
@@ -34,7 +35,7 @@ pub record Unchanged (number : ℕ) (ws₀ : List ℕ) (l₀ : Lent) (ws next by
 
 -- The engine in ws answers as P has it: what comes next is told in numbers; the words that are not its own are as in ws₀.
 pub record EngineSays (P : StepAnswer → Type 0) (ws₀ ws next bytes : List ℕ) : Type 0 where
-  pub said : NextStep
+  pub said : NextStep CallEnding
   pub answers : P (record { next = said; state = state_of ws; bytes = bytes })
   pub numbers : next ≡ step_numbers said
   pub others : words_from 3 0 ws ≡ words_from 3 0 ws₀

@@ -1,7 +1,7 @@
 -- A loop over the exported functions is a loop over the session's start and step, so what `trail` says holds of it.
 use Rattle.std.specs.Prelude.{ℕ, List, [], ◌∷◌, ◌++◌, ◌≡◌, refl, get_or}
 use Rattle.std.proofs.Common.{sym, ap, ◌∙◌, arith}
-use Rattle.wire.specs.declared.Answer.{Answer}
+use Rattle.wire.specs.Outcomes.{Answer}
 use Rattle.wire.specs.declared.Call.{Call}
 use Rattle.wire.specs.declared.Call.TheVariants as C
 use Rattle.wire_numbers.specs.Numbers.{numbers_of}
@@ -11,8 +11,8 @@ use Rattle.session_calls.specs.declared.Order.{Order}
 use Rattle.session.specs.Answer.{standing}
 use Rattle.session.specs.declared.Reply.{Reply}
 use Rattle.session.specs.declared.SessionEnding.{SessionEnding}
-use Rattle.session.specs.declared.SessionNext.{SessionNext}
-use Rattle.session.specs.declared.SessionNext.TheVariants as N
+use Rattle.engine.specs.declared.NextStep.{NextStep}
+use Rattle.engine.specs.declared.NextStep.TheVariants as N
 use Rattle.session_trail.specs.Trail.{Trail, AsCalled, Says, over, due}
 use Rattle.session_trail.specs.Trail as T
 use Rattle.session_trail.proofs.Theorem.{trail}
@@ -31,11 +31,11 @@ linked_tells (begun g) = record { numbers = g.says.numbers; hands = g.says.hands
 linked_tells (more a t h g) = record { numbers = g.says.numbers; hands = g.says.hands }
 
 -- a kind that is not 0 asks for a transport call
-pub record Asks (n : SessionNext) : Type 0 where
+pub record Asks (n : NextStep SessionEnding) : Type 0 where
   pub due : TransportCall
   pub is : n ≡ N.Make due
 
-asks : (n : SessionNext) → (get_or (next_numbers n) 0 0 ≡ 0 → ⊥) → Asks n
+asks : (n : NextStep SessionEnding) → (get_or (next_numbers n) 0 0 ≡ 0 → ⊥) → Asks n
 asks (N.Make x) h = record { due = x; is = refl }
 asks (N.Finish e) h = absurd (h refl)
 
@@ -60,7 +60,7 @@ letter (C.Pins output select wait) e = omega (arith, e)
 letter (C.WriteBits bits word) e = omega (arith, e)
 letter C.OutputEnable e = omega (arith, e)
 
-pub record Ends (n : SessionNext) : Type 0 where
+pub record Ends (n : NextStep SessionEnding) : Type 0 where
   pub ending : SessionEnding
   pub is : n ≡ N.Finish ending
 

@@ -1,7 +1,7 @@
 -- What a loop in C or Rust over bazkondur_start and bazkondur_step has seen of one call, whatever was answered: it steps while `kind`, the
 -- first of the numbers, is not 0. The reply that the numbers tell stands beside them.
 use Rattle.std.specs.Prelude.{ℕ, List, [], ◌∷◌, ◌++◌, ◌≡◌, get_or}
-use Rattle.wire.specs.declared.Answer.{Answer}
+use Rattle.wire.specs.Outcomes.{Answer}
 use Rattle.session_calls.specs.Session.{Lent}
 use Rattle.session_calls.specs.declared.Order.{Order}
 use Rattle.session.specs.declared.Reply.{Reply}

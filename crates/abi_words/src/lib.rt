@@ -8,13 +8,14 @@ ghost use Rattle.session_phase.specs.declared.Phase.TheVariants.{Running};
 ghost use Rattle.abi_words.specs.Words.{words_from, phase_at, state_of, session_of, KeepsState, KeepsSession};
 ghost use Rattle.abi_words.specs.Numbers.{due_numbers, end_numbers, next_numbers};
 
-use engine::State;
-use session::{Session, SessionNext};
+use engine::{NextStep, State};
+use session::{Session, SessionEnding};
 use session_phase::{Kind, Phase};
 use wire::Call;
 use wire_numbers::TransportCall;
 
 // How a session stands, as a number.
+// Stays: no `From<u32>`: Phase is another crate's, and the numbers are those of the words that `bazkondur_start` keeps.
 pub fn phase_at(n: u32) -> Phase
     ensures { result ≡ phase_at n }
 {
@@ -41,35 +42,24 @@ pub fn phase_at(n: u32) -> Phase
     }
 }
 
-fn running_no(kind: Kind, lost: bool) -> u32
-    ensures { phase_at result ≡ Running kind lost }
-{
-    match kind {
-        Kind::Plain => {
-            if lost {
-                return 3;
-            }
-            2
-        }
-        Kind::Connect => {
-            if lost {
-                return 5;
-            }
-            4
-        }
-    }
-}
-
 fn phase_no(p: Phase) -> u32
     ensures { phase_at result ≡ p }
 {
     match p {
         Phase::Closed => 0,
         Phase::Open => 1,
-        Phase::Running { kind, lost } => running_no(kind, lost),
+        Phase::Running {
+            kind: Kind::Plain,
+            lost,
+        } => 2 + u32::from(lost),
+        Phase::Running {
+            kind: Kind::Connect,
+            lost,
+        } => 4 + u32::from(lost),
     }
 }
 
+// Stays: word by word; one function for any size, by copy_from_slice, took 8 instructions more for each word of read_mem.
 pub fn transfer_at(ws: &[u32; 64]) -> [u32; 7]
     ensures { result ≡ words_from 7 3 ws.now }
 {
@@ -107,16 +97,15 @@ fn state_at(ws: &[u32; 64]) -> State
 pub fn session_at(ws: &[u32; 64]) -> Session
     ensures { result ≡ session_of ws.now }
 {
-    let phase = phase_at(ws[0]);
-    let state = state_at(ws);
     Session {
-        phase: phase,
+        phase: phase_at(ws[0]),
         budget: ws[1],
         left: ws[2],
-        state: state,
+        state: state_at(ws),
     }
 }
 
+// Stays: likewise.
 fn keep_transfer(ws: &mut [u32; 64], t: [u32; 7])
     ensures { ws.new ≡ sets ws.old 3 (words_from 7 0 t) }
 {
@@ -182,15 +171,11 @@ pub fn keep_flight(ws: &mut [u32; 64], t: [u32; 7], m: [u32; 12])
 pub fn keep_session(ws: &mut [u32; 64], s: Session)
     ensures { length ws.old ≡ 64 → KeepsSession s ws.old ws.new }
 {
-    let phase = s.phase;
-    let state = s.state;
-    ws[0] = phase_no(phase);
+    let State { transfer, op, call } = s.state;
+    ws[0] = phase_no(s.phase);
     ws[1] = s.budget;
     ws[2] = s.left;
-    let t = state.transfer;
-    let m = state.op;
-    let c = state.call;
-    keep_words(ws, t, m, c);
+    keep_words(ws, transfer, op, call);
 }
 
 // What comes next, in numbers: the letter of the transport call to make, or 0 where the call has ended; the result, a word, and how many
@@ -199,15 +184,15 @@ fn due(c: TransportCall) -> [u32; 9]
     ensures { result ≡ due_numbers c }
 {
     [
-        wire::wide(c.kind),
+        u32::from(c.kind),
         0,
         c.word,
         0,
-        wire::wide(c.request),
-        wire::wide(c.bits),
-        wire::wide(c.len),
-        wire::wide(c.output),
-        wire::wide(c.select),
+        u32::from(c.request),
+        u32::from(c.bits),
+        u32::from(c.len),
+        u32::from(c.output),
+        u32::from(c.select),
     ]
 }
 
@@ -215,16 +200,16 @@ fn due(c: TransportCall) -> [u32; 9]
 pub fn ended(number: u8, value: u32, made: u32) -> [u32; 9]
     ensures { result ≡ end_numbers number value made }
 {
-    [0, wire::wide(number), value, made, 0, 0, 0, 0, 0]
+    [0, u32::from(number), value, made, 0, 0, 0, 0, 0]
 }
 
 // What a session says comes next.
-pub fn session_next(n: SessionNext) -> [u32; 9]
+pub fn session_next(n: NextStep<SessionEnding>) -> [u32; 9]
     ensures { result ≡ next_numbers n }
 {
     match n {
-        SessionNext::Make(c) => due(c),
-        SessionNext::Finish(e) => ended(e.number, e.value, e.made),
+        NextStep::Make(c) => due(c),
+        NextStep::Finish(e) => ended(e.number, e.value, e.made),
     }
 }
 
@@ -239,5 +224,5 @@ pub fn call_due(c: Call) -> [u32; 9]
 pub fn transfer_due(request: u8, word: u32) -> [u32; 9]
     ensures { result ≡ due_numbers (numbers_of (Call.Transfer request word)) }
 {
-    [0x54, 0, word, 0, wire::wide(request), 0, 0, 0, 0]
+    [u32::from(b'T'), 0, word, 0, u32::from(request), 0, 0, 0, 0]
 }

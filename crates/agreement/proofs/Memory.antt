@@ -1,23 +1,20 @@
 -- Clauses 3 and 4 of Demand3 for every call of a session: what the memory calls read is the target's, and what they write is there.
 -- Serves the proofs only.
-use Rattle.std.specs.Prelude.{ℕ, ◌+◌, ◌<◌, Bool, not, ◌≡◌, List, [], leb, length, get_or}
+use Rattle.std.specs.Prelude.{ℕ, ◌+◌, ◌<◌, Bool, not, ◌≡◌, List, [], leb, length, get_or, Ok, Err, Some, None}
 use Rattle.std.proofs.Math.Bool.{true, false}
 use Rattle.std.proofs.Common.{true≢false, sym, ◌∙◌, subst, arith, eqb-true}
 use Rattle.std.proofs.lemmas.Bool.{false≢true, not-true}
 use Rattle.std.proofs.Math.Path.{refl}
 use Rattle.wire.specs.Bytes.{le_bytes}
 use Rattle.wire.specs.Wire.{Wire, Memory, memory_of, play, Ending, ended, spent, succeeds}
-use Rattle.wire.specs.declared.Outcome.TheVariants.{Value, Failed}
 use Rattle.call_memory.specs.Memory.{mem_from, mem, memory_job}
 use Rattle.call.specs.Job.{Job, exec}
 use Rattle.target.specs.declared.Target.{Target}
-use Rattle.target.specs.declared.Byte.TheVariants as B
 use Rattle.target.specs.declared.Act.{Act}
 use Rattle.session_rules.specs.Refusals.{unless, admitted, aligned, ranged}
 use Rattle.session_rules.specs.declared.Refusal.{Refusal}
 use Rattle.session_rules.specs.declared.Refusal.TheVariants as R
-use Rattle.session_rules.specs.declared.Check.{Check}
-use Rattle.session_rules.specs.declared.Check.TheVariants.{Pass, Refuse}
+use Rattle.session_rules.specs.Refusals.{Check}
 use Rattle.session_rules.specs.declared.Facts.{Facts}
 use Rattle.session_calls.specs.Calls.{facts_of, is_connect}
 use Rattle.session_calls.specs.Session.{ROOM, Lent, ran, succeeded, check_of, session_tree, lost_in}
@@ -39,17 +36,17 @@ use Rattle.agreement.proofs.OneWord.{WordEnds, word_read, word_written}
 
 -- refused: nothing changed, no success
 refused_reads : (r : Refusal) (x : Moment) (i : Item) (acts : List Act) (addr n : ℕ) (given : List ℕ)
-    → Reads (made_if (Refuse r) x i acts) addr n given
+    → Reads (made_if (Err r) x i acts) addr n given
 refused_reads r x i acts addr n given = record { same = λ a. refl; whole = λ h. absurd (false≢true h); gives = λ h. absurd (false≢true h) }
 
-refused_writes : (r : Refusal) (x : Moment) (i : Item) (acts : List Act) (addr : ℕ) (new : List ℕ) → Writes (made_if (Refuse r) x i acts) addr new
+refused_writes : (r : Refusal) (x : Moment) (i : Item) (acts : List Act) (addr : ℕ) (new : List ℕ) → Writes (made_if (Err r) x i acts) addr new
 refused_writes r x i acts addr new = record { whole = λ h. absurd (false≢true h); partly = λ a. old refl }
 
 -- the checks that passed
-never_passes : {X : Type 0} (r : Refusal) → Refuse r ≡ Pass → X
+never_passes : {X : Type 0} (r : Refusal) → ◌≡◌ {A = Check} (Err r) (Ok tt) → X
 never_passes r h = let z : ◌≡◌ {A = ℕ} 0 1 = cc in absurd (omega arith)
 
-passed : (a b c : Bool) → unless a R.NoSession (unless b R.Align (unless c R.Range Pass)) ≡ Pass → (a ≡ true) × (b ≡ true) × (c ≡ true)
+passed : (a b c : Bool) → unless a R.NoSession (unless b R.Align (unless c R.Range (Ok tt))) ≡ (Ok tt) → (a ≡ true) × (b ≡ true) × (c ≡ true)
 passed true true true h = (refl, refl, refl)
 passed true true false h = never_passes R.Range h
 passed true false c h = never_passes R.Align h
@@ -71,22 +68,22 @@ module _ (base : ℕ) (mem₀ : List ℕ) (addr : ℕ) (m : Memory) (t : Target)
     start : t.base ≡ base
     same : mem ≡ mem₀
     whole : ok ≡ true → length given ≡ n
-    gives : ok ≡ true → (i : ℕ) → i < length given → byte_in base mem₀ (addr + i) ≡ B.Value (get_or given i 0)
+    gives : ok ≡ true → (i : ℕ) → i < length given → byte_in base mem₀ (addr + i) ≡ Some (get_or given i 0)
 
   word_off : Bytes mem₀ → (e : Ending) → Holds (WordEnds base mem₀ addr) (ReadSpent base mem₀) e m t mem b → ReadOff 4 (succeeds e) (value_bytes (ran e))
-  word_off bytes (ended (Value v)) h = record {
+  word_off bytes (ended (Ok v)) h = record {
     start = h.0.0;
     same = h.0.1;
     whole = λ s. refl;
     gives = λ s. held_byte base mem₀ bytes addr v
         h.1;
   }
-  word_off bytes (ended (Failed e)) h = record { start = h.0; same = h.1; whole = λ s. absurd (false≢true s); gives = λ s. absurd (false≢true s) }
+  word_off bytes (ended (Err e)) h = record { start = h.0; same = h.1; whole = λ s. absurd (false≢true s); gives = λ s. absurd (false≢true s) }
   word_off bytes spent h = record { start = h.0; same = h.1; whole = λ s. absurd (false≢true s); gives = λ s. absurd (false≢true s) }
 
   mem_off : (len : ℕ) (e : Ending) → Holds (ReadEnds base mem₀ addr len) (ReadSpent base mem₀) e m t mem b → ReadOff len (succeeds e) m.buf
-  mem_off len (ended (Value v)) h = record { start = h.0.0; same = h.0.1; whole = λ s. h.1; gives = λ s i l. h.2 i (omega (arith, h.1)) }
-  mem_off len (ended (Failed e)) h = record { start = h.0; same = h.1; whole = λ s. absurd (false≢true s); gives = λ s. absurd (false≢true s) }
+  mem_off len (ended (Ok v)) h = record { start = h.0.0; same = h.0.1; whole = λ s. h.1; gives = λ s i l. h.2 i (omega (arith, h.1)) }
+  mem_off len (ended (Err e)) h = record { start = h.0; same = h.1; whole = λ s. absurd (false≢true s); gives = λ s. absurd (false≢true s) }
   mem_off len spent h = record { start = h.0; same = h.1; whole = λ s. absurd (false≢true s); gives = λ s. absurd (false≢true s) }
 
   -- of a write: how far it has come
@@ -96,8 +93,8 @@ module _ (base : ℕ) (mem₀ : List ℕ) (addr : ℕ) (m : Memory) (t : Target)
     whole : ok ≡ true → Progress base mem₀ addr new (length new) mem
 
   write_off : (new : List ℕ) (e : Ending) → Holds (WriteEnds base mem₀ addr new) (WriteSpent base mem₀ addr new) e m t mem b → WriteOff new (succeeds e)
-  write_off new (ended (Value v)) h = record { start = h.0; partly = (length new, h.1); whole = λ s. h.1 }
-  write_off new (ended (Failed e)) h = record { start = h.0; partly = h.1; whole = λ s. absurd (false≢true s) }
+  write_off new (ended (Ok v)) h = record { start = h.0; partly = (length new, h.1); whole = λ s. h.1 }
+  write_off new (ended (Err e)) h = record { start = h.0; partly = h.1; whole = λ s. absurd (false≢true s) }
   write_off new spent h = record { start = h.0; partly = h.1; whole = λ s. absurd (false≢true s) }
 
 module _ (d : Made) (addr : ℕ) (m : Memory) (b : Bool) where
@@ -115,7 +112,7 @@ module _ (d : Made) (addr : ℕ) (m : Memory) (b : Bool) where
 -- A call that was not refused, over its line.
 module _ (x : Moment) (n : ℕ) (l : Lent) (acts : List Act) (c : SessionCall) (addr : ℕ) where
   abbrev over : Made
-  over = made_if Pass x (record { call = c; budget = n; lent = l }) acts
+  over = made_if (Ok tt) x (record { call = c; budget = n; lent = l }) acts
 
   abbrev tree : Wire
   tree = session_tree x.standing c l
@@ -165,16 +162,16 @@ module _ (x : Moment) (k : Kept x) (n : ℕ) (l : Lent) (typed : Typed l) (acts 
   start = memory_of x.standing.remembered l.room buf
 
   abbrev Passes : SessionCall → Type 0
-  Passes c = check_of x.standing c l ≡ Pass
+  Passes c = check_of x.standing c l ≡ (Ok tt)
 
   -- refused, or not
-  either : (c : SessionCall) (P : Made → Type 0) → ((r : Refusal) → P (made_if (Refuse r) x (item c) acts))
-      → (Passes c → P (made_if Pass x (item c) acts)) → P (made x (item c) acts)
+  either : (c : SessionCall) (P : Made → Type 0) → ((r : Refusal) → P (made_if (Err r) x (item c) acts))
+      → (Passes c → P (made_if (Ok tt) x (item c) acts)) → P (made x (item c) acts)
   either c P f g = go (check_of x.standing c l) refl
     where
       go : (k : Check) → check_of x.standing c l ≡ k → P (made_if k x (item c) acts)
-      go (Refuse r) h = f r
-      go Pass h = g h
+      go (Err r) h = f r
+      go (Ok tt) h = g h
 
   -- what the facts of the call say then
   record Checked (f : Facts) : Type 0 where

@@ -1,11 +1,10 @@
 -- The calls that read and write one word. Serves the proofs only.
 use Prim.Native.Nat.{ℕ, zero, suc, ◌+◌, ◌-◌, ◌*◌, ◌%◌, ◌≤◌, ◌<◌}
-use Rattle.std.specs.Prelude.{false, ◌≡◌, refl, length, get_or}
+use Rattle.std.specs.Prelude.{false, ◌≡◌, refl, length, get_or, Ok, Err}
 use Rattle.std.proofs.Common.{ap, arith}
 use mathlib.Core.List.{List}
 use Rattle.wire.specs.Bytes.{le_bytes, put_word}
 use Rattle.wire.specs.Wire.{Memory}
-use Rattle.wire.specs.declared.Outcome.TheVariants.{Value, Failed}
 use Rattle.wire_memap.specs.Ops.{perform}
 use Rattle.call.specs.Job.{either, exec, return, fail, read_word_of, write_word}
 use Rattle.target.specs.declared.Target.{Target}
@@ -20,8 +19,8 @@ use Rattle.agreement.proofs.WriteTurns.{Partly, WriteSpent, WriteEnds, write_sto
 
 -- a success has the word
 abbrev pub WordEnds : ℕ → List ℕ → ℕ → Post
-WordEnds base old addr (Value v) m t mem b = ReadSpent base old m t mem b × Held base old addr v
-WordEnds base old addr (Failed e) m t mem b = ReadSpent base old m t mem b
+WordEnds base old addr (Ok v) m t mem b = ReadSpent base old m t mem b × Held base old addr v
+WordEnds base old addr (Err e) m t mem b = ReadSpent base old m t mem b
 
 module _ (base : ℕ) (old : List ℕ) (addr : ℕ) (z : addr % 4 ≡ 0) (m : Memory) (t : Target) (i : Idle base m t) where
   pub word_read : Safe (WordEnds base old addr) (ReadSpent base old) (exec (read_word_of addr) m) t old false

@@ -1,9 +1,8 @@
 -- Clause 1: the session is open exactly when the calls, their results and the answers say so, whatever answers. Serves the proofs only.
-use Rattle.std.specs.Prelude.{Bool, true, false, ◌&&◌, ◌||◌, List, [], ◌∷◌, ◌≡◌, refl}
+use Rattle.std.specs.Prelude.{Bool, true, false, ◌&&◌, ◌||◌, List, [], ◌∷◌, ◌≡◌, refl, Ok, Err}
 use Rattle.std.proofs.Common.{sym, ap, ◌∙◌}
-use Rattle.wire.specs.declared.Answer.{Answer}
-use Rattle.session_rules.specs.declared.Check.{Check}
-use Rattle.session_rules.specs.declared.Check.TheVariants.{Pass, Refuse}
+use Rattle.wire.specs.Outcomes.{Answer}
+use Rattle.session_rules.specs.Refusals.{Check}
 use Rattle.session_calls.specs.Calls.{is_connect}
 use Rattle.session_calls.specs.Session.{Standing, Lent, plan_of, session_tree, called, checked, check_of}
 use Rattle.session_calls.specs.declared.SessionCall.{SessionCall}
@@ -30,10 +29,10 @@ open_next s c l answers = go (check_of s c l) refl
   where
     go : (k : Check) → check_of s c l ≡ k
         → (checked k s c l answers).after.is_open ≡ open_next_of s.is_open c (checked k s c l answers).calls answers (checked k s c l answers).ending
-    go Pass h =
+    go (Ok tt) h =
         rw (lost_among (session_tree s c l) false answers (shaped s c l))
         (same_rule (is_connect c) s.is_open _ (admitted_open s c l h))
-    go (Refuse x) h = refl
+    go (Err x) h = refl
 
 pub open_told : (s : Standing) (xs : List Told) → (standing_after s xs).is_open ≡ open_told_of s.is_open s xs
 unfolding standing_after open_told_of

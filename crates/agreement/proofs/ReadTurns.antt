@@ -1,9 +1,8 @@
 -- Memory reads: every turn gets more of the target's bytes, and the memory stays. Serves the proofs only.
-use Rattle.std.specs.Prelude.{ℕ, ◌+◌, ◌-◌, ◌*◌, ◌%◌, ◌≤◌, ◌<◌, true, false, ◌≡◌, length, drop}
+use Rattle.std.specs.Prelude.{ℕ, ◌+◌, ◌-◌, ◌*◌, ◌%◌, ◌≤◌, ◌<◌, true, false, ◌≡◌, length, drop, Ok, Err}
 use Rattle.std.proofs.Common.{◌∙◌, arith}
 use mathlib.Core.List.{List}
 use Rattle.wire.specs.Wire.{Memory}
-use Rattle.wire.specs.declared.Outcome.TheVariants.{Value, Failed}
 use Rattle.wire_memap.specs.Ops.{perform}
 use Rattle.call.specs.Change.{changed}
 use Rattle.call.specs.declared.Change.TheVariants as C
@@ -37,8 +36,8 @@ ReadSpent base old m t mem b = Stays base (Same old) (rest_of m t mem)
 
 -- and a success has got all
 abbrev pub ReadEnds : ℕ → List ℕ → ℕ → ℕ → Post
-ReadEnds base old addr len (Value v) m t mem b = ReadSpent base old m t mem b × (length m.buf ≡ len) × Got base old addr m.buf len
-ReadEnds base old addr len (Failed e) m t mem b = ReadSpent base old m t mem b
+ReadEnds base old addr len (Ok v) m t mem b = ReadSpent base old m t mem b × (length m.buf ≡ len) × Got base old addr m.buf len
+ReadEnds base old addr len (Err e) m t mem b = ReadSpent base old m t mem b
 
 pub read_stops : (base : ℕ) (old : List ℕ) → Stops (ReadSpent base old) (Keeps (Stays base (Same old)))
 read_stops base old = stops (λ m t mem b k. k.rest)

@@ -1,13 +1,12 @@
 -- Memory writes: every turn takes the write further, and wherever it stops so many of the new bytes stand in memory. Serves the proofs only.
 use Prim.Native.Nat.{ℕ, zero, suc, ◌+◌, ◌-◌, ◌*◌, ◌%◌, ◌≤◌, ◌<◌}
-use Rattle.std.specs.Prelude.{false, ◌≡◌, length, get_or, drop}
+use Rattle.std.specs.Prelude.{false, ◌≡◌, length, get_or, drop, Ok, Err}
 use Rattle.std.proofs.Math.Path.{refl}
 use Rattle.std.proofs.Common.{ap, ◌∙◌, arith, length-set, get_or-set_same}
 use mathlib.Core.List.{List}
 use Rattle.std.proofs.Math.ListN.{set}
 use Rattle.wire.specs.Bytes.{put_word, le_word}
 use Rattle.wire.specs.Wire.{Memory}
-use Rattle.wire.specs.declared.Outcome.TheVariants.{Value, Failed}
 use Rattle.wire_memap.specs.Ops.{perform}
 use Rattle.call_bytes.specs.Bytes.{load_words, patch_word}
 use Rattle.call.specs.Job.{Job, exec, return, keep, just, ◌>>◌}
@@ -46,8 +45,8 @@ WriteSpent base old addr new m t mem b = Stays base (Partly base old addr new) (
 
 -- after a success all of them do
 abbrev pub WriteEnds : ℕ → List ℕ → ℕ → List ℕ → Post
-WriteEnds base old addr new (Value v) m t mem b = (t.base ≡ base) × Progress base old addr new (length new) mem
-WriteEnds base old addr new (Failed e) m t mem b = WriteSpent base old addr new m t mem b
+WriteEnds base old addr new (Ok v) m t mem b = (t.base ≡ base) × Progress base old addr new (length new) mem
+WriteEnds base old addr new (Err e) m t mem b = WriteSpent base old addr new m t mem b
 
 pub write_stops : (base : ℕ) (old : List ℕ) (addr : ℕ) (new : List ℕ)
     → Stops (WriteSpent base old addr new) (Keeps (Stays base (Partly base old addr new)))

@@ -1,17 +1,14 @@
 -- Demand 3: what is claimed of every list of session calls over target and line (01: "The session").
-use Rattle.std.specs.Prelude.{ℕ, ◌+◌, ◌-◌, ◌<◌, Bool, true, false, ◌&&◌, ◌||◌, cond, List, [], ◌∷◌, ◌≡◌, eqb, leb, ltb, length, get_or}
+use Rattle.std.specs.Prelude.{ℕ, ◌+◌, ◌-◌, ◌<◌, Bool, true, false, ◌&&◌, ◌||◌, cond, List, [], ◌∷◌, ◌≡◌, eqb, leb, ltb, length, get_or, Ok, Err, Option, Some, None}
 use Rattle.wire.specs.Bytes.{le_bytes}
 use Rattle.wire.specs.Wire.{ended, spent, succeeds}
 use Rattle.wire.specs.declared.Call.{Call}
-use Rattle.wire.specs.declared.Answer.{Answer}
-use Rattle.wire.specs.declared.Outcome.TheVariants.{Value, Failed}
+use Rattle.wire.specs.Outcomes.{Answer}
 use Rattle.wire.specs.declared.Remembered.{Remembered}
 use Rattle.wire_memap.specs.Ports.{CSW_DEFAULT}
 use Rattle.target.specs.Memory.{byte_at}
 use Rattle.target.specs.Deliver.{transfer_else}
 use Rattle.target.specs.declared.Target.{Target}
-use Rattle.target.specs.declared.Byte.{Byte}
-use Rattle.target.specs.declared.Byte.TheVariants as B
 use Rattle.session_phase.specs.Phase.{error_but, loss, is_spent, opens_after}
 use Rattle.session_calls.specs.Calls.{is_connect}
 use Rattle.session_calls.specs.Session.{Standing, ROOM, Lent, Result, refused, ran, succeeded, called}
@@ -62,7 +59,7 @@ pub record Agree (r : Remembered) (t : Target) : Type 0 where
   pub csw : r.csw ≡ true → t.csw ≡ CSW_DEFAULT
 
 -- Clauses 3 and 4: the bytes of memory.
-abbrev pub byte : Moment → ℕ → Byte
+abbrev pub byte : Moment → ℕ → Option ℕ
 byte x a = byte_at x.target x.mem a
 
 -- whether an address is one of n from `addr` on
@@ -71,7 +68,7 @@ among addr n a = leb addr a && ltb a (addr + n)
 
 -- bytes given to the caller are the target's
 abbrev pub Gives : Moment → ℕ → List ℕ → Type 0
-Gives x addr bytes = (i : ℕ) → i < length bytes → byte x (addr + i) ≡ B.Value (get_or bytes i 0)
+Gives x addr bytes = (i : ℕ) → i < length bytes → byte x (addr + i) ≡ Some (get_or bytes i 0)
 
 -- a read of n bytes changes nothing, and one that succeeded gave n bytes, the target's
 pub record Reads (m : Made) (addr n : ℕ) (given : List ℕ) : Type 0 where
@@ -80,14 +77,14 @@ pub record Reads (m : Made) (addr n : ℕ) (given : List ℕ) : Type 0 where
   pub gives : succeeded m.came.ending ≡ true → Gives m.before addr given
 
 -- the byte at a that `new` from `addr` on makes of an old one
-abbrev pub renewed : ℕ → List ℕ → ℕ → Byte → Byte
-renewed addr new a old = cond (among addr (length new) a) (B.Value (get_or new (a - addr) 0)) old
+abbrev pub renewed : ℕ → List ℕ → ℕ → Option ℕ → Option ℕ
+renewed addr new a old = cond (among addr (length new) a) (Some (get_or new (a - addr) 0)) old
 
 -- a byte that exists, in the range, and is the new one now
 pub record New (m : Made) (addr : ℕ) (new : List ℕ) (a : ℕ) : Type 0 where
   pub range : among addr (length new) a ≡ true
-  pub existed : byte m.before a ≡ B.Absent → ⊥
-  pub now : byte m.after a ≡ B.Value (get_or new (a - addr) 0)
+  pub existed : byte m.before a ≡ None → ⊥
+  pub now : byte m.after a ≡ Some (get_or new (a - addr) 0)
 
 pub data OldOrNew (m : Made) (addr : ℕ) (new : List ℕ) (a : ℕ) : Type 0 where
   old : byte m.after a ≡ byte m.before a → OldOrNew m addr new a
@@ -100,8 +97,8 @@ pub record Writes (m : Made) (addr : ℕ) (new : List ℕ) : Type 0 where
 -- the bytes that call 9 gives: those of its value
 abbrev pub value_bytes : Result → List ℕ
 value_bytes (refused x) = []
-value_bytes (ran (ended (Value v))) = le_bytes v
-value_bytes (ran (ended (Failed e))) = []
+value_bytes (ran (ended (Ok v))) = le_bytes v
+value_bytes (ran (ended (Err e))) = []
 value_bytes (ran spent) = []
 
 abbrev pub MemoryKept : SessionCall → Made → Type 0

@@ -1,11 +1,10 @@
 -- A list of session calls over target and line, whatever the line does (01: "The session"; believed).
-use Rattle.std.specs.Prelude.{ℕ, List, [], ◌∷◌, length, drop}
-use Rattle.wire.specs.declared.Answer.{Answer}
+use Rattle.std.specs.Prelude.{ℕ, List, [], ◌∷◌, length, drop, Ok, Err}
+use Rattle.wire.specs.Outcomes.{Answer}
 use Rattle.target.specs.declared.Target.{Target}
 use Rattle.target.specs.declared.Act.{Act}
 use Rattle.target_line.specs.Talk.{Talk, talk, silent}
-use Rattle.session_rules.specs.declared.Check.{Check}
-use Rattle.session_rules.specs.declared.Check.TheVariants.{Pass, Refuse}
+use Rattle.session_rules.specs.Refusals.{Check}
 use Rattle.session_calls.specs.Session.{Standing, closed, Lent, Called, check_of, checked, session_tree}
 use Rattle.session_calls.specs.declared.SessionCall.{SessionCall}
 
@@ -34,8 +33,8 @@ pub record Made : Type 0 where
 
 -- what the session hears during a call, and the target afterwards
 abbrev pub heard_if : Check → Moment → Item → List Act → Talk
-heard_if (Refuse r) x i acts = silent x.target x.mem
-heard_if Pass x i acts = talk (session_tree x.standing i.call i.lent) i.budget acts x.target x.mem
+heard_if (Err r) x i acts = silent x.target x.mem
+heard_if (Ok tt) x i acts = talk (session_tree x.standing i.call i.lent) i.budget acts x.target x.mem
 
 abbrev pub left : Called → Talk → Moment
 left came heard = record { standing = came.after; target = heard.target; mem = heard.mem }

@@ -1,7 +1,7 @@
 -- What the functions that C and Rust call answer (include/bazkondur.h): a session and an engine in 64 words each, by the session's and the
 -- engine's own contracts, over what any words mean.
-use Rattle.std.specs.Prelude.{ℕ, false, List, ◌≡◌, length, drop}
-use Rattle.wire.specs.declared.Answer.{Answer}
+use Rattle.std.specs.Prelude.{ℕ, false, List, ◌≡◌, length, drop, None, Some}
+use Rattle.wire.specs.Outcomes.{Answer}
 use Rattle.wire_memap.specs.Laws.Doing.{remembered_of}
 use Rattle.call.specs.Change.{fresh}
 use Rattle.engine_calls.specs.declared.EngineCall.{EngineCall}
@@ -14,8 +14,6 @@ use Rattle.session.specs.declared.Session.{Session}
 use Rattle.session.specs.declared.Reply.{Reply}
 use Rattle.session_steps.specs.Step.{Started, Stepped}
 use Rattle.abi_calls.specs.Given.{engine_call_of, session_call_of}
-use Rattle.abi_calls.specs.declared.Given.TheVariants as G
-use Rattle.abi_calls.specs.declared.Ordered.TheVariants as O
 use Rattle.abi_words.specs.Words.{words_from, session_of}
 use Rattle.abi_words.specs.Numbers.{next_numbers}
 use Rattle.abi_steps.specs.Engine.{Unchanged, EngineStarted, under_way}
@@ -35,8 +33,8 @@ pub record Begun (o : Order) (ws₀ : List ℕ) (l₀ : Lent) (ws next bytes : L
 
 -- by number and arguments: the call that they stand for, or 255 and nothing changed where they stand for none
 pub record Begins (call budget : ℕ) (args ws₀ : List ℕ) (l₀ : Lent) (ws next bytes : List ℕ) (l : Lent) : Type 0 where
-  pub asked : (c : SessionCall) → session_call_of call args ≡ O.Asked c → Begun (record { call = c; budget = budget }) ws₀ l₀ ws next bytes l
-  pub bad : session_call_of call args ≡ O.Bad → Unchanged 255 ws₀ l₀ ws next bytes l
+  pub asked : (c : SessionCall) → session_call_of call args ≡ Some c → Begun (record { call = c; budget = budget }) ws₀ l₀ ws next bytes l
+  pub bad : session_call_of call args ≡ None → Unchanged 255 ws₀ l₀ ws next bytes l
 
 -- a step with the answer a
 pub record GoesOn (a : Answer) (ws₀ : List ℕ) (l₀ : Lent) (ws next bytes : List ℕ) (l : Lent) : Type 0 where
@@ -44,8 +42,8 @@ pub record GoesOn (a : Answer) (ws₀ : List ℕ) (l₀ : Lent) (ws next bytes :
 
 -- the same of the engine by itself, whose steps are `EngineStepped`
 pub record EngineBegins (call : ℕ) (args ws₀ : List ℕ) (l₀ : Lent) (ws next bytes : List ℕ) (l : Lent) : Type 0 where
-  pub asked : (x : EngineCall) → engine_call_of call args ≡ G.Asked x → EngineStarted x ws₀ l₀ ws next bytes l
-  pub bad : engine_call_of call args ≡ G.Bad → Unchanged 255 ws₀ l₀ ws next bytes l
+  pub asked : (x : EngineCall) → engine_call_of call args ≡ Some x → EngineStarted x ws₀ l₀ ws next bytes l
+  pub bad : engine_call_of call args ≡ None → Unchanged 255 ws₀ l₀ ws next bytes l
 
 -- a new session: closed, nothing known, no call under way
 pub record NewSession (ws₀ ws : List ℕ) : Type 0 where

@@ -2,19 +2,23 @@
 // library, which exports nothing.
 #![tactic(auto)]
 
-ghost use Rattle.std.specs.Prelude.{true, ◌≡◌, length};
-ghost use Rattle.wire.specs.declared.Answer.TheVariants.{Good};
+ghost use Rattle.std.specs.Prelude.{true, ◌≡◌, length, Ok};
 ghost use Rattle.wire_numbers.specs.Log.{answer_at};
 ghost use Rattle.session_calls.specs.Session.{lending};
 ghost use Rattle.session.specs.Answer.{standing};
-ghost use Rattle.abi_words.specs.Words.{session_of};
+ghost use Rattle.abi_words.specs.Words.{session_of, KeepsSession};
+ghost use Rattle.abi_words.specs.Numbers.{next_numbers};
 ghost use Rattle.abi_steps.specs.Engine.{EngineStepped};
 ghost use Rattle.bazkondur.specs.Linked.{Begun, Begins, GoesOn, EngineBegins, NewSession, NewEngine};
 ghost use Rattle.bazkondur.specs.Laws.Goes.{May, TakesOne};
 
-use abi_calls::{Given, Ordered};
+use engine::State;
+use session::SessionAnswer;
 use session_calls::Order;
 use session_phase::Phase;
+use wire_memap::AtOnce;
+use wire_runs::NextWord;
+use wire_step::NextAccess;
 
 // The result number of a start with no such call, with another number of arguments, or with one that is too wide.
 const BAD_CALL: u8 = 255;
@@ -35,6 +39,22 @@ pub extern "C" fn bazkondur_is_open(session: &[u32; 64]) -> bool
     session::open(abi_words::session_at(session))
 }
 
+// Stays: room, list, buf, next and bytes go apart, as C lends them (bazkondur_start).
+
+// What a session answered by value is kept in the words, and told.
+#[inline(always)]
+fn kept(session: &mut [u32; 64], a: SessionAnswer, next: &mut [u32; 9], bytes: &mut [u8; 16])
+    ensures keeps { length session.old ≡ 64 → KeepsSession a.session session.old session.new }
+    ensures numbers { next.new ≡ next_numbers a.reply.next }
+    ensures hands { bytes.new ≡ a.reply.bytes }
+{
+    let reply = a.reply;
+    let handed = reply.bytes;
+    abi_words::keep_session(session, a.session);
+    *next = abi_words::session_next(reply.next);
+    *bytes = handed;
+}
+
 fn started(
     session: &mut [u32; 64],
     o: Order,
@@ -48,15 +68,8 @@ fn started(
         → Begun o session.old (lending room.old list.old buf.old)
         session.new next.new bytes.new (lending room.new list.new buf.new) }
 {
-    let r = session_steps::session_start(abi_words::session_at(session), o, room, list, buf);
-    let after = r.session;
-    let reply = r.reply;
-    let due = reply.next;
-    let handed = reply.bytes;
-    abi_words::keep_session(session, after);
-    let n = abi_words::session_next(due);
-    *next = n;
-    *bytes = handed;
+    let a = session_steps::session_start(abi_words::session_at(session), o, room, list, buf);
+    kept(session, a, next, bytes)
 }
 
 // The start of a call by 01's number, with a word for each argument.
@@ -76,14 +89,16 @@ pub extern "C" fn bazkondur_start(
         session.new next.new bytes.new (lending room.new list.new buf.new) }
 {
     match abi_calls::session_call_of(call, args) {
-        Ordered::Bad => abi_steps::refused(BAD_CALL, next, bytes),
-        Ordered::Asked(c) => {
-            let o = Order {
-                call: c,
-                budget: budget,
-            };
-            started(session, o, room, list, buf, next, bytes)
-        }
+        None => abi_steps::refused(BAD_CALL, next, bytes),
+        Some(call) => started(
+            session,
+            Order { call, budget },
+            room,
+            list,
+            buf,
+            next,
+            bytes,
+        ),
     }
 }
 
@@ -100,43 +115,28 @@ fn stepped(
     ensures { length session.old ≡ 64 → GoesOn (answer_at code value) session.old (lending room.old list.old buf.old)
         session.new next.new bytes.new (lending room.new list.new buf.new) }
 {
-    let a = wire_numbers::answer_at(code, value);
-    let r = session_steps::session_step(abi_words::session_at(session), a, room, list, buf);
-    let after = r.session;
-    let reply = r.reply;
-    let due = reply.next;
-    let handed = reply.bytes;
-    abi_words::keep_session(session, after);
-    let n = abi_words::session_next(due);
-    *next = n;
-    *bytes = handed;
+    let answer = wire_numbers::answer_at(code, value);
+    let a = session_steps::session_step(abi_words::session_at(session), answer, room, list, buf);
+    kept(session, a, next, bytes)
 }
 
 // Whether a call is under way over the room, and its budget allows a transport call after the next answer.
 fn may_go_on(ws: &[u32; 64]) -> bool
     ensures { result ≡ true → May ws.now }
 {
-    let phase = abi_words::phase_at(ws[0]);
-    let left = ws[2];
-    match phase {
-        Phase::Closed => false,
-        Phase::Open => false,
-        Phase::Running { kind, lost } => {
-            if 1 < left {
-                return ws[28] == 0;
-            }
-            false
-        }
+    match abi_words::phase_at(ws[0]) {
+        Phase::Running { .. } => 1 < ws[2] && ws[28] == 0,
+        Phase::Closed | Phase::Open => false,
     }
 }
 
-// The word of a run, or the value of any access, is taken at once where another access follows it and the budget allows that one.
-fn session_runs(ws: &mut [u32; 64], v: u32, room: &mut [u32; 192]) -> bool
-    ensures { TakesOne (Good v) result ws.old room.old ws.new room.new }
+// The value of an access is taken in one of the ways to do so at once, where the budget allows the access that follows.
+fn taken<W: AtOnce>(ws: &mut [u32; 64], v: u32, room: &mut [u32; 192]) -> bool
+    ensures { TakesOne (Ok v) result ws.old room.old ws.new room.new }
 {
     if may_go_on(ws) {
         let left = session_phase::left_after(ws[2]);
-        if abi_steps::runs(ws, v, room) {
+        if abi_steps::taken::<W>(ws, v, room) {
             ws[2] = left;
             return true;
         }
@@ -144,29 +144,16 @@ fn session_runs(ws: &mut [u32; 64], v: u32, room: &mut [u32; 192]) -> bool
     false
 }
 
-fn session_moves(ws: &mut [u32; 64], v: u32, room: &mut [u32; 192]) -> bool
-    ensures { TakesOne (Good v) result ws.old room.old ws.new room.new }
-{
-    if may_go_on(ws) {
-        let left = session_phase::left_after(ws[2]);
-        if abi_steps::moves(ws, v, room) {
-            ws[2] = left;
-            return true;
-        }
-    }
-    false
-}
-
-fn takes(ws: &mut [u32; 64], code: u32, value: u32, room: &mut [u32; 192]) -> bool
+// The same with 01's code and value of an answer: code 0 is a value.
+fn takes<W: AtOnce>(ws: &mut [u32; 64], code: u32, value: u32, room: &mut [u32; 192]) -> bool
     ensures { TakesOne (answer_at code value) result ws.old room.old ws.new room.new }
 {
-    if code == 0 {
-        return session_moves(ws, value, room);
-    }
-    false
+    code == 0 && taken::<W>(ws, value, room)
 }
 
-fn session_on(
+// A step where no word of a run is taken.
+#[inline(never)]
+fn step_on(
     session: &mut [u32; 64],
     code: u32,
     value: u32,
@@ -179,8 +166,8 @@ fn session_on(
     ensures { length session.old ≡ 64 → GoesOn (answer_at code value) session.old (lending room.old list.old buf.old)
         session.new next.new bytes.new (lending room.new list.new buf.new) }
 {
-    if takes(session, code, value, room) {
-        abi_steps::told(session, next, bytes);
+    if takes::<NextAccess>(session, code, value, room) {
+        abi_steps::told_at(session, next, bytes);
         return;
     }
     stepped(session, code, value, room, list, buf, next, bytes)
@@ -201,15 +188,11 @@ pub extern "C" fn bazkondur_step(
     ensures { length session.old ≡ 64 → GoesOn (answer_at code value) session.old (lending room.old list.old buf.old)
         session.new next.new bytes.new (lending room.new list.new buf.new) }
 {
-    if code == 0 {
-        if session_runs(session, value, room) {
-            abi_steps::told_at(session, next, bytes);
-            return;
-        }
-        session_on(session, code, value, room, list, buf, next, bytes);
+    if takes::<NextWord>(session, code, value, room) {
+        abi_steps::told_at(session, next, bytes);
         return;
     }
-    session_on(session, code, value, room, list, buf, next, bytes)
+    step_on(session, code, value, room, list, buf, next, bytes)
 }
 
 // An engine that has made no call.
@@ -217,11 +200,8 @@ pub extern "C" fn bazkondur_step(
 pub extern "C" fn bazkondur_engine_new(engine: &mut [u32; 64])
     ensures { length engine.old ≡ 64 → NewEngine engine.old engine.new }
 {
-    let s = engine::idle(engine::new());
-    let t = s.transfer;
-    let m = s.op;
-    let c = s.call;
-    abi_words::keep_words(engine, t, m, c);
+    let State { transfer, op, call } = engine::idle(engine::new());
+    abi_words::keep_words(engine, transfer, op, call);
 }
 
 // The start of one of its 35 calls.
@@ -240,8 +220,8 @@ pub extern "C" fn bazkondur_engine_start(
         engine.new next.new bytes.new (lending room.new words.new buf.new) }
 {
     match abi_calls::engine_call_of(call, args) {
-        Given::Bad => abi_steps::refused(BAD_CALL, next, bytes),
-        Given::Asked(c) => abi_steps::start(engine, c, room, words, buf, next, bytes),
+        None => abi_steps::refused(BAD_CALL, next, bytes),
+        Some(call) => abi_steps::start(engine, call, room, words, buf, next, bytes),
     }
 }
 

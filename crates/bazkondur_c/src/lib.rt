@@ -9,6 +9,7 @@ ghost use Rattle.abi_words.specs.Words.{session_of};
 ghost use Rattle.abi_steps.specs.Engine.{EngineStepped};
 ghost use Rattle.bazkondur.specs.Linked.{Begins, GoesOn, EngineBegins, NewSession, NewEngine};
 
+// Stays: each function beside the one of bazkondur, with what is lent apart: the C interface (docs/DECISIONS.md, A library and its exports).
 // A session that has made no call.
 #[unsafe(no_mangle)]
 pub extern "C" fn bazkondur_new(session: &mut [u32; 64])

@@ -3,8 +3,6 @@
 #![tactic(auto)]
 
 ghost use Rattle.std.specs.Prelude.{◌≡◌};
-ghost use Rattle.wire_numbers.specs.Log.{answer_of};
-ghost use Rattle.engine_words.specs.Laws.Step.{TriesIn};
 ghost use Rattle.bench.specs.Played.{call_no, Counted};
 ghost use Rattle.bench.specs.Laws.Steps.{BegunIn, SteppedBy};
 
@@ -14,6 +12,7 @@ use call_fpb::FpbCall;
 use call_memory::MemoryCall;
 use engine_calls::EngineCall;
 
+// Stays: numbers, words and slices beside each other, here and below, as C hands them to bench_run, bench_start and bench_step.
 // The calls by number. The function of the last one has no arguments; its stack and the place that it returns to are its own address.
 fn call_no(call: u32, addr: u32) -> EngineCall
     ensures { result ≡ call_no call addr }
@@ -87,21 +86,6 @@ pub extern "C" fn bench_start(
     engine_words::is_running(c)
 }
 
-// A value is taken at once where an access follows it.
-fn tried(t: &mut [u32; 7], m: &mut [u32; 12], c: &[u32; 9], x: u64, room: &mut [u32; 192]) -> bool
-    ensures { TriesIn (answer_of x) result t.old m.old c.now room.old
-        t.new m.new room.new }
-{
-    if x < 0x100000000 {
-        let v = x as u32;
-        if engine_words::runs_in(t, m, c, v, room) {
-            return true;
-        }
-        return engine_words::moves_in(t, m, c, v, room);
-    }
-    false
-}
-
 // One step with the answer that a number stands for, as the run takes them: whether a transport call is due.
 #[unsafe(no_mangle)]
 pub extern "C" fn bench_step(
@@ -116,7 +100,7 @@ pub extern "C" fn bench_step(
     ensures { SteppedBy x result t.old m.old c.old room.old words.old
         buf.old t.new m.new c.new room.new words.new buf.new }
 {
-    if tried(t, m, c, x, room) {
+    if engine_words::takes_in(t, m, c, x, room) {
         return true;
     }
     engine_words::step_in(t, m, c, wire_numbers::answer_of(x), room, words, buf);

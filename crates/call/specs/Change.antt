@@ -1,6 +1,6 @@
 -- Copyright 2026 Kenta Ida. SPDX-License-Identifier: Apache-2.0. Ported from arm-debug/src/lib.rs of ciniml/rust-dap.
 -- What a call changes besides its transport calls: what is remembered, the words that it runs over, the caller's buffer.
-use Rattle.std.specs.Prelude.{ℕ, Bool, true, false, List, [], ◌∷◌, eqb, set, drop}
+use Rattle.std.specs.Prelude.{ℕ, Bool, true, false, List, eqb, set, drop}
 use Rattle.std.proofs.lemmas.List.Edits.{sets}
 use Rattle.wire.specs.Wire.{Memory}
 use Rattle.wire.specs.declared.Remembered.{Remembered}
@@ -23,10 +23,6 @@ abbrev pub set_apsel : Bool → ℕ → Remembered → Remembered
 set_apsel true a r = r
 set_apsel false a r = record { select = r.select; csw = false; apsel = a }
 
--- the xPSR that a function starts with: its T bit alone (000: start_function)
-abbrev pub XPSR_THUMB : ℕ
-XPSR_THUMB = 0x01000000
-
 -- one part anew, the others as they are; so is `remembering`
 abbrev pub words_become : Memory → List ℕ → Memory
 words_become m ws = record { remembered = m.remembered; words = ws; buf = m.buf }
@@ -45,6 +41,5 @@ changed (C.StorePart at skip count word) m = buf_becomes m (from_place at (store
 changed (C.LoadWords at n) m = words_become m (load_words n (drop at m.buf) m.words)
 changed (C.Patch at skip count word) m = words_become m (set m.words 0 (patch_word count word skip (drop at m.buf)))
 changed (C.Put at word) m = words_become m (set m.words at word)
-changed (C.Registers r0 r1 r2 r3 sp lr pc) m =
-    words_become m (sets m.words 8 (r0 ∷ r1 ∷ r2 ∷ r3 ∷ sp ∷ lr ∷ pc ∷ XPSR_THUMB ∷ []))
-changed (C.Frame r0 r1 r2 r3 sp lr pc xpsr) m = words_become m (sets m.words 0 (r0 ∷ r1 ∷ r2 ∷ r3 ∷ sp ∷ lr ∷ pc ∷ xpsr ∷ []))
+changed (C.Registers registers) m = words_become m (sets m.words 8 registers)
+changed (C.Frame registers) m = words_become m (sets m.words 0 registers)

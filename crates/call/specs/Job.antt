@@ -1,12 +1,11 @@
 -- A call as a job: operations, changes of what is kept, and an end; `exec` makes a tree of transport calls of it.
 -- Jobs chain in `do` blocks as the Rust's methods do: a value goes on to the next line, an error ends the call.
 -- Every call is of this one first-order language, so that a claim about all calls is one induction.
-use Rattle.std.specs.Prelude.{ℕ}
+use Rattle.std.specs.Prelude.{ℕ, Ok, Err}
 use Rattle.wire.specs.Wire.{Wire, Memory, done}
 use Rattle.wire.specs.declared.Call.{Call}
 use Rattle.wire.specs.declared.ArmError.{ArmError}
-use Rattle.wire.specs.declared.Outcome.{Outcome}
-use Rattle.wire.specs.declared.Outcome.TheVariants.{Value, Failed}
+use Rattle.wire.specs.Outcomes.{Outcome}
 use Rattle.wire_memap.specs.Ops.{perform}
 use Rattle.wire_memap.specs.declared.Op.{Op}
 use Rattle.wire_memap.specs.declared.Op.TheVariants as O
@@ -20,8 +19,8 @@ pub data Job : Type 0 where
   keep : Change → Job → Job
 
 abbrev pub either : (ℕ → Memory → Wire) → (ArmError → Memory → Wire) → Memory → Outcome → Wire
-either good bad m (Value v) = good v m
-either good bad m (Failed e) = bad e m
+either good bad m (Ok v) = good v m
+either good bad m (Err e) = bad e m
 
 unfoldable pub exec : Job → Memory → Wire
 exec (ends o) m = done m o
@@ -29,10 +28,10 @@ exec (op w good bad) m = perform w (either (λ v. exec (good v)) (λ e. exec (ba
 exec (keep c j) m = exec j (changed c m)
 
 abbrev pub return : ℕ → Job
-return v = ends (Value v)
+return v = ends (Ok v)
 
 abbrev pub fail : ArmError → Job
-fail e = ends (Failed e)
+fail e = ends (Err e)
 
 -- j, and then k whatever came of it
 abbrev pub attempt : Job → (Outcome → Job) → Job
@@ -42,8 +41,8 @@ attempt (keep c j) k = keep c (attempt j k)
 
 -- an error ends the call
 abbrev pub or_fail : (ℕ → Job) → Outcome → Job
-or_fail k (Value v) = k v
-or_fail k (Failed e) = fail e
+or_fail k (Ok v) = k v
+or_fail k (Err e) = fail e
 
 infixr 1 ◌>>=◌ ◌>>◌
 abbrev pub ◌>>=◌ : Job → (ℕ → Job) → Job

@@ -5,14 +5,18 @@
 // What a call changes besides its transport calls: what is remembered, the words that it runs over, the caller's buffer.
 #![tactic(auto)]
 
-ghost use Rattle.std.specs.Prelude.{[], ◌∷◌, ◌≡◌, ◌≤◌, set};
+ghost use Rattle.std.specs.Prelude.{◌≡◌, ◌≤◌, Ok, Err};
 ghost use Rattle.std.proofs.lemmas.List.Edits.{sets};
 ghost use Rattle.wire.specs.Wire.{memory_of};
+ghost use Rattle.wire.specs.Outcomes.{Outcome};
 ghost use Rattle.call.specs.Change.{fresh, changed};
+ghost use Rattle.call.specs.Job.{Job, ends};
+ghost use Rattle.call.specs.Laws.Asks.{asks, keep_some, op_then};
 ghost use Rattle.call.specs.Laws.Change.{remembered_after, words_after, buf_after, is_nothing};
+ghost use Rattle.call.specs.declared.Change.TheVariants.{Nothing};
 
-use call_at::At;
-use wire::{Outcome, Remembered};
+use call_at::{At, Packed, at_step};
+use wire::{ArmError, Outcome, Remembered};
 use wire_memap::Op;
 
 // `at` is a place in the caller's buffer, of `Put` one in the room; `skip` and `count` are bytes of a word.
@@ -48,29 +52,9 @@ pub enum Change {
         at: u32,
         word: u32,
     },
-    Registers {
-        r0: u32,
-        r1: u32,
-        r2: u32,
-        r3: u32,
-        sp: u32,
-        lr: u32,
-        pc: u32,
-    },
-    Frame {
-        r0: u32,
-        r1: u32,
-        r2: u32,
-        r3: u32,
-        sp: u32,
-        lr: u32,
-        pc: u32,
-        xpsr: u32,
-    },
+    Registers([u32; 8]),
+    Frame([u32; 8]),
 }
-
-// The xPSR that a function starts with: its T bit alone.
-const XPSR_THUMB: u32 = 0x01000000;
 
 // What comes next in a call: an operation, or its end.
 #[derive(Clone, Copy)]
@@ -102,20 +86,7 @@ pub fn new() -> Remembered
 pub fn is_nothing(c: Change) -> bool
     ensures { result ≡ is_nothing c }
 {
-    match c {
-        Change::Nothing => true,
-        Change::New => false,
-        Change::Forget => false,
-        Change::SelectZero => false,
-        Change::Apsel(_) => false,
-        Change::StoreWords { .. } => false,
-        Change::StorePart { .. } => false,
-        Change::LoadWords { .. } => false,
-        Change::Patch { .. } => false,
-        Change::Put { .. } => false,
-        Change::Registers { .. } => false,
-        Change::Frame { .. } => false,
-    }
+    matches!(c, Change::Nothing)
 }
 
 // What is remembered after a change.
@@ -123,71 +94,29 @@ fn remembered_after(c: Change, r: Remembered) -> Remembered
     ensures { result ≡ remembered_after c r }
 {
     match c {
-        Change::Nothing => r,
         Change::New => new(),
         Change::Forget => Remembered {
-            select: 0xFFFFFFFF,
+            apsel: r.apsel,
+            ..new()
+        },
+        Change::SelectZero => Remembered { select: 0, ..r },
+        Change::Apsel(a) if a != r.apsel => Remembered {
             csw: false,
-            apsel: r.apsel,
+            apsel: a,
+            ..r
         },
-        Change::SelectZero => Remembered {
-            select: 0,
-            csw: r.csw,
-            apsel: r.apsel,
-        },
-        Change::Apsel(a) => {
-            if a == r.apsel {
-                return r;
-            }
-            Remembered {
-                select: r.select,
-                csw: false,
-                apsel: a,
-            }
-        }
-        Change::StoreWords { .. } => r,
-        Change::StorePart { .. } => r,
-        Change::LoadWords { .. } => r,
-        Change::Patch { .. } => r,
-        Change::Put { .. } => r,
-        Change::Registers { .. } => r,
-        Change::Frame { .. } => r,
-    }
-}
-
-// A word outside is dropped.
-fn put(row: &mut [u32], i: usize, word: u32)
-    ensures { row.new ≡ set row.old i word }
-{
-    if i < row.len() {
-        row[i] = word;
+        _ => r,
     }
 }
 
 // Eight registers, in the places from `at` on.
-fn put_registers(
-    row: &mut [u32],
-    at: usize,
-    r0: u32,
-    r1: u32,
-    r2: u32,
-    r3: u32,
-    sp: u32,
-    lr: u32,
-    pc: u32,
-    xpsr: u32,
-)
+fn put_registers(row: &mut [u32], at: usize, registers: &[u32; 8])
     requires { at ≤ 8 }
-    ensures { row.new ≡ sets row.old at (r0 ∷ r1 ∷ r2 ∷ r3 ∷ sp ∷ lr ∷ pc ∷ xpsr ∷ []) }
+    ensures { row.new ≡ sets row.old at registers.now }
 {
-    put(row, at, r0);
-    put(row, at + 1, r1);
-    put(row, at + 2, r2);
-    put(row, at + 3, r3);
-    put(row, at + 4, sp);
-    put(row, at + 5, lr);
-    put(row, at + 6, pc);
-    put(row, at + 7, xpsr);
+    for (i, word) in registers.iter().enumerate() {
+        slots::put(row, at + i, *word);
+    }
 }
 
 // The row and the buffer after a change.
@@ -196,11 +125,6 @@ fn apply(c: Change, row: &mut [u32], buf: &mut [u8])
         × (buf.new ≡ buf_after c row.old buf.old) }
 {
     match c {
-        Change::Nothing => {}
-        Change::New => {}
-        Change::Forget => {}
-        Change::SelectZero => {}
-        Change::Apsel(_) => {}
         Change::StoreWords { at, n } => call_bytes::store_words(buf, at, row, n),
         Change::StorePart {
             at,
@@ -215,26 +139,10 @@ fn apply(c: Change, row: &mut [u32], buf: &mut [u8])
             count,
             word,
         } => call_bytes::patch(row, buf, at, skip, count, word),
-        Change::Put { at, word } => put(row, at as usize, word),
-        Change::Registers {
-            r0,
-            r1,
-            r2,
-            r3,
-            sp,
-            lr,
-            pc,
-        } => put_registers(row, 8, r0, r1, r2, r3, sp, lr, pc, XPSR_THUMB),
-        Change::Frame {
-            r0,
-            r1,
-            r2,
-            r3,
-            sp,
-            lr,
-            pc,
-            xpsr,
-        } => put_registers(row, 0, r0, r1, r2, r3, sp, lr, pc, xpsr),
+        Change::Put { at, word } => slots::put(row, at as usize, word),
+        Change::Registers(registers) => put_registers(row, 8, &registers),
+        Change::Frame(registers) => put_registers(row, 0, &registers),
+        _ => {}
     }
 }
 
@@ -242,7 +150,75 @@ fn apply(c: Change, row: &mut [u32], buf: &mut [u8])
 pub fn make_change(c: Change, r: Remembered, ws: &mut [u32], buf: &mut [u8]) -> Remembered
     ensures { changed c (memory_of r ws.old buf.old) ≡ memory_of result ws.new buf.new }
 {
-    let r2 = remembered_after(c, r);
     apply(c, ws, buf);
-    r2
+    remembered_after(c, r)
+}
+
+// The call ends, after a change.
+pub fn ended_after(change: Change, o: Outcome) -> Asks
+    ensures asked { (k : Outcome → Job) → keep_some change (ends o) ≡ asks result.change result.next k }
+    ensures change { result.change ≡ change }
+{
+    Asks {
+        change,
+        at: at_step(0, 0, 0, 0, 0, 0),
+        next: Next::End(o),
+    }
+}
+
+// The call ends.
+pub fn ended(o: Outcome) -> Asks
+    ensures asked { (k : Outcome → Job) → ends o ≡ asks result.change result.next k }
+    ensures change { result.change ≡ Nothing }
+{
+    ended_after(Change::Nothing, o)
+}
+
+// A group of calls: its phases, and what follows the outcome of the operation that is in flight at each.
+pub trait Group {
+    type Phase: Packed<At>;
+
+    ghost after: { Self.Phase → Outcome → Job };
+}
+
+// The same in code: by the operation's value, or by its error.
+pub trait GoesOn: Group {
+    fn value_after(p: Self::Phase, v: u32) -> Asks
+        ensures { Self.after p (Ok v) ≡ asks result.change result.next (λ o. Self.after (Self.Phase.told result.at) o) };
+
+    fn failed_after(p: Self::Phase, e: ArmError) -> Asks
+        ensures { Self.after p (Err e) ≡ asks result.change result.next (λ o. Self.after (Self.Phase.told result.at) o) };
+}
+
+// The operation `op` of a call of the group, after a change. Inlined, since where the phase is known its numbers are constants.
+#[inline(always)]
+pub fn changing<G: Group>(change: Change, p: G::Phase, op: Op) -> Asks
+    ensures asked { keep_some change (op_then op (G.after p)) ≡ asks result.change result.next (λ o. G.after (G.Phase.told result.at) o) }
+    ensures change { result.change ≡ change }
+{
+    Asks {
+        change,
+        at: p.pack(),
+        next: Next::Do(op),
+    }
+}
+
+// The operation `op`, and nothing is changed before it.
+#[inline(always)]
+pub fn doing<G: Group>(p: G::Phase, op: Op) -> Asks
+    ensures asked { op_then op (G.after p) ≡ asks result.change result.next (λ o. G.after (G.Phase.told result.at) o) }
+    ensures change { result.change ≡ Nothing }
+{
+    changing::<G>(Change::Nothing, p, op)
+}
+
+// What a call of the group that is in flight asks for, now that its operation has ended.
+pub fn call_after<G: GoesOn>(at: At, o: Outcome) -> Asks
+    ensures { G.after (G.Phase.told at) o ≡ asks result.change result.next (λ o. G.after (G.Phase.told result.at) o) }
+{
+    let p = <G::Phase as Packed<At>>::unpack(at);
+    match o {
+        Ok(v) => G::value_after(p, v),
+        Err(e) => G::failed_after(p, e),
+    }
 }

@@ -6,13 +6,12 @@
 #![tactic(auto)]
 
 ghost use Rattle.std.specs.Prelude.{◌≡◌};
-ghost use Rattle.call.specs.Laws.Asks.{asks, keep_some, op_then};
-ghost use Rattle.call.specs.Job.{ends};
+ghost use Rattle.call.specs.Laws.Asks.{asks};
 ghost use Rattle.call_connect.specs.Connect.{connect_job, parity, no_target_of};
-ghost use Rattle.call_connect.specs.Laws.After.{connect_after, phase_after, connect_at_of, how_of, goes_on_of, swd_line, multidrop_line, line, nth, line_from, identified, polled, after_poll};
+ghost use Rattle.call_connect.specs.Laws.After.{connect_after, phase_after, connect_at_of, how_of, swd_line, multidrop_line, line, nth, line_from, identified, polled, after_poll};
 
-use call::{Asks, Change, Next};
-use call_at::At;
+use call::{Asks, Change, GoesOn, Group, changing, doing, ended};
+use call_at::{At, Packed, at_step};
 use wire::{ArmError, Call, Outcome, Pattern};
 use wire_memap::Op;
 
@@ -79,21 +78,17 @@ fn parity_of(w: u32) -> u32
     u32::count_ones(w) % 2
 }
 
-// Call number `n` of a plain connect, counted from the last one.
-fn swd_call(n: u32) -> Call
-    ensures { result ≡ nth swd_line n }
-{
-    match n {
-        0 => Call::Sequence(Pattern::ResetIdle),
-        1 => Call::Sequence(Pattern::ResetHigh),
-        2 => Call::Sequence(Pattern::JtagToSwd),
-        3 => Call::Sequence(Pattern::ResetIdle),
-        4 => Call::Sequence(Pattern::ResetHigh),
-        _ => Call::Connect,
-    }
-}
+// The calls of a plain connect after the first, the last one first.
+const SWD_LINE: [Call; 5] = [
+    Call::Sequence(Pattern::ResetIdle),
+    Call::Sequence(Pattern::ResetHigh),
+    Call::Sequence(Pattern::JtagToSwd),
+    Call::Sequence(Pattern::ResetIdle),
+    Call::Sequence(Pattern::ResetHigh),
+];
 
 // Call number `n` of a multidrop connect, counted from the last one: TARGETSEL, a line reset, and what comes before it.
+// Stays: a `match`, and no table, since the first two calls are of the target's own.
 fn multidrop_call(n: u32, targetsel: u32) -> Call
     ensures { result ≡ nth (multidrop_line targetsel) n }
 {
@@ -130,118 +125,85 @@ fn line_call(how: How, n: u32, targetsel: u32) -> Call
     ensures { result ≡ nth (line how targetsel) n }
 {
     match how {
-        How::Probe => swd_call(n),
-        How::Swd => swd_call(n),
+        How::Probe | How::Swd => slots::get_or(&SWD_LINE, n as usize, Call::Connect),
         How::Multidrop => multidrop_call(n, targetsel),
     }
 }
 
-// What a DPIDR is read for, as a number.
-fn how_number(how: How) -> u32
-    ensures { how_of result ≡ how }
-{
-    match how {
-        How::Probe => 0,
-        How::Swd => 1,
-        How::Multidrop => 2,
+// Stays: numbers for ways and phases: the words of a session hold them, and any words are some phase.
+impl Packed<u32> for How {
+    ghost told = { λ n. how_of n };
+
+    fn pack(self) -> u32 {
+        match self {
+            How::Probe => 0,
+            How::Swd => 1,
+            How::Multidrop => 2,
+        }
+    }
+
+    fn unpack(n: u32) -> How {
+        match n {
+            0 => How::Probe,
+            1 => How::Swd,
+            _ => How::Multidrop,
+        }
     }
 }
 
-fn how_of(n: u32) -> How
-    ensures { result ≡ how_of n }
-{
-    match n {
-        0 => How::Probe,
-        1 => How::Swd,
-        _ => How::Multidrop,
-    }
-}
+impl Packed<At> for ConnectAt {
+    ghost told = { λ at. connect_at_of at };
 
-// Which operation is in flight, in numbers.
-fn pack(p: ConnectAt) -> At
-    ensures { connect_at_of result ≡ p }
-{
-    match p {
-        ConnectAt::Line {
-            how,
-            left,
-            targetsel,
-        } => call_at::at_step(0, how_number(how), left, targetsel, 0, 0),
-        ConnectAt::Dpidr(how) => call_at::at_step(1, how_number(how), 0, 0, 0, 0),
-        ConnectAt::Abort(dpidr) => call_at::at_step(2, dpidr, 0, 0, 0, 0),
-        ConnectAt::Select(dpidr) => call_at::at_step(3, dpidr, 0, 0, 0, 0),
-        ConnectAt::Power(dpidr) => call_at::at_step(4, dpidr, 0, 0, 0, 0),
-        ConnectAt::Poll { dpidr, left } => call_at::at_step(5, dpidr, left, 0, 0, 0),
-        ConnectAt::Pulse => call_at::at_step(6, 0, 0, 0, 0, 0),
+    fn pack(self) -> At {
+        match self {
+            ConnectAt::Line {
+                how,
+                left,
+                targetsel,
+            } => at_step(0, how.pack(), left, targetsel, 0, 0),
+            ConnectAt::Dpidr(how) => at_step(1, how.pack(), 0, 0, 0, 0),
+            ConnectAt::Abort(dpidr) => at_step(2, dpidr, 0, 0, 0, 0),
+            ConnectAt::Select(dpidr) => at_step(3, dpidr, 0, 0, 0, 0),
+            ConnectAt::Power(dpidr) => at_step(4, dpidr, 0, 0, 0, 0),
+            ConnectAt::Poll { dpidr, left } => at_step(5, dpidr, left, 0, 0, 0),
+            ConnectAt::Pulse => at_step(6, 0, 0, 0, 0, 0),
+        }
     }
-}
 
-// Which operation is in flight.
-fn unpack(at: At) -> ConnectAt
-    ensures { result ≡ connect_at_of at }
-{
-    let n = at.step % 32;
-    match n {
-        0 => ConnectAt::Line {
-            how: how_of(at.a),
-            left: at.b,
-            targetsel: at.c,
-        },
-        1 => ConnectAt::Dpidr(how_of(at.a)),
-        2 => ConnectAt::Abort(at.a),
-        3 => ConnectAt::Select(at.a),
-        4 => ConnectAt::Power(at.a),
-        5 => ConnectAt::Poll {
-            dpidr: at.a,
-            left: at.b,
-        },
-        _ => ConnectAt::Pulse,
+    fn unpack(at: At) -> ConnectAt {
+        match at.step % 32 {
+            0 => ConnectAt::Line {
+                how: How::unpack(at.a),
+                left: at.b,
+                targetsel: at.c,
+            },
+            1 => ConnectAt::Dpidr(How::unpack(at.a)),
+            2 => ConnectAt::Abort(at.a),
+            3 => ConnectAt::Select(at.a),
+            4 => ConnectAt::Power(at.a),
+            5 => ConnectAt::Poll {
+                dpidr: at.a,
+                left: at.b,
+            },
+            _ => ConnectAt::Pulse,
+        }
     }
-}
-
-// The call is over.
-fn ended(o: Outcome) -> Asks
-    ensures { ends o ≡ asks result.change result.next (connect_after result.at) }
-{
-    Asks {
-        change: Change::Nothing,
-        at: call_at::at_step(0, 0, 0, 0, 0, 0),
-        next: Next::End(o),
-    }
-}
-
-// The operation `op`, after a change.
-fn changing(change: Change, at: ConnectAt, op: Op) -> Asks
-    ensures { keep_some change (op_then op (phase_after at)) ≡ asks result.change result.next (connect_after result.at) }
-{
-    let numbers = pack(at);
-    Asks {
-        change: change,
-        at: numbers,
-        next: Next::Do(op),
-    }
-}
-
-// The operation `op`, and nothing is changed before it.
-fn doing(at: ConnectAt, op: Op) -> Asks
-    ensures { op_then op (phase_after at) ≡ asks result.change result.next (connect_after result.at) }
-{
-    changing(Change::Nothing, at, op)
 }
 
 // `left` more calls that are no transfers, and then DPIDR.
+#[tactic(auto, using(crate::specs::Laws::After::line_more), unfolding(crate::specs::Laws::After::line_from))]
 fn line_on(how: How, left: u32, targetsel: u32) -> Asks
     ensures { line_from how targetsel left ≡ asks result.change result.next (connect_after result.at) }
 {
     if left == 0 {
-        return doing(ConnectAt::Dpidr(how), Op::DpRead { addr: DPIDR });
+        return doing::<ConnectCall>(ConnectAt::Dpidr(how), Op::DpRead { addr: DPIDR });
     }
     let call = line_call(how, left - 1, targetsel);
-    doing(
+    doing::<ConnectCall>(
         ConnectAt::Line {
-            how: how,
+            how,
             left: left - 1,
-            targetsel: targetsel,
+            targetsel,
         },
         Op::Other(call),
     )
@@ -259,29 +221,30 @@ fn identified_by(how: How, v: u32) -> Asks
     ensures { identified how v ≡ asks result.change result.next (connect_after result.at) }
 {
     if no_target(v) {
-        return ended(Outcome::Failed(ArmError::NoTarget));
+        return ended(Err(ArmError::NoTarget));
     }
     let abort = Op::DpWrite {
         addr: ABORT,
         word: ABORT_CLEAR_ALL,
     };
     match how {
-        How::Probe => ended(Outcome::Value(v)),
-        How::Swd => changing(Change::New, ConnectAt::Abort(v), abort),
-        How::Multidrop => changing(Change::Forget, ConnectAt::Abort(v), abort),
+        How::Probe => ended(Ok(v)),
+        How::Swd => changing::<ConnectCall>(Change::New, ConnectAt::Abort(v), abort),
+        How::Multidrop => changing::<ConnectCall>(Change::Forget, ConnectAt::Abort(v), abort),
     }
 }
 
 // `left` more reads of CTRL/STAT.
+#[tactic(auto, using(crate::specs::Laws::After::polled_more), unfolding(crate::specs::Connect::poll_acks))]
 fn poll_on(dpidr: u32, left: u32) -> Asks
     ensures { polled dpidr left ≡ asks result.change result.next (connect_after result.at) }
 {
     if left == 0 {
-        return ended(Outcome::Failed(ArmError::PowerUpTimeout));
+        return ended(Err(ArmError::PowerUpTimeout));
     }
-    doing(
+    doing::<ConnectCall>(
         ConnectAt::Poll {
-            dpidr: dpidr,
+            dpidr,
             left: left - 1,
         },
         Op::DpRead { addr: CTRL_STAT },
@@ -293,44 +256,13 @@ fn polled_by(dpidr: u32, left: u32, v: u32) -> Asks
     ensures { after_poll dpidr left v ≡ asks result.change result.next (connect_after result.at) }
 {
     if v / CDBGPWRUPACK % 2 + v / CSYSPWRUPACK % 2 == 2 {
-        return ended(Outcome::Value(dpidr));
+        return ended(Ok(dpidr));
     }
     poll_on(dpidr, left)
 }
 
-// What follows an operation of a connect that gave the value `v`.
-fn value_after(p: ConnectAt, v: u32) -> Asks
-    ensures { goes_on_of p v ≡ asks result.change result.next (connect_after result.at) }
-{
-    match p {
-        ConnectAt::Line {
-            how,
-            left,
-            targetsel,
-        } => line_on(how, left, targetsel),
-        ConnectAt::Dpidr(how) => identified_by(how, v),
-        ConnectAt::Abort(dpidr) => doing(
-            ConnectAt::Select(dpidr),
-            Op::DpWrite {
-                addr: SELECT,
-                word: 0,
-            },
-        ),
-        ConnectAt::Select(dpidr) => changing(
-            Change::SelectZero,
-            ConnectAt::Power(dpidr),
-            Op::DpWrite {
-                addr: CTRL_STAT,
-                word: CDBGPWRUPREQ + CSYSPWRUPREQ,
-            },
-        ),
-        ConnectAt::Power(dpidr) => poll_on(dpidr, POLLS),
-        ConnectAt::Poll { dpidr, left } => polled_by(dpidr, left, v),
-        ConnectAt::Pulse => ended(Outcome::Value(0)),
-    }
-}
-
 // The first operation of each call. Before DPIDR a multidrop connect makes 15 transport calls, a plain one 6, and a reselect the last 7 of the 15.
+#[tactic(auto, using(crate::specs::Laws::After::multidrop_is, crate::specs::Laws::After::reselect_is, crate::specs::Laws::After::probe_is, crate::specs::Laws::After::swd_is), unfolding(crate::specs::Connect::connect_job))]
 pub fn start(c: ConnectCall) -> Asks
     ensures { connect_job c ≡ asks result.change result.next (connect_after result.at) }
 {
@@ -338,7 +270,7 @@ pub fn start(c: ConnectCall) -> Asks
         ConnectCall::ConnectMultidrop(targetsel) => line_on(How::Multidrop, 15, targetsel),
         ConnectCall::ProbeSwd => line_on(How::Probe, 6, 0),
         ConnectCall::ConnectSwd => line_on(How::Swd, 6, 0),
-        ConnectCall::ResetPulse(wait) => doing(
+        ConnectCall::ResetPulse(wait) => doing::<ConnectCall>(
             ConnectAt::Pulse,
             Op::Other(Call::Pins {
                 output: 0x00,
@@ -350,12 +282,51 @@ pub fn start(c: ConnectCall) -> Asks
     }
 }
 
-// What follows an operation of a connect, by its outcome: an error ends the call.
+impl Group for ConnectCall {
+    type Phase = ConnectAt;
+
+    ghost after = { phase_after };
+}
+
+impl GoesOn for ConnectCall {
+    fn value_after(p: ConnectAt, v: u32) -> Asks {
+        match p {
+            ConnectAt::Line {
+                how,
+                left,
+                targetsel,
+            } => line_on(how, left, targetsel),
+            ConnectAt::Dpidr(how) => identified_by(how, v),
+            ConnectAt::Abort(dpidr) => doing::<ConnectCall>(
+                ConnectAt::Select(dpidr),
+                Op::DpWrite {
+                    addr: SELECT,
+                    word: 0,
+                },
+            ),
+            ConnectAt::Select(dpidr) => changing::<ConnectCall>(
+                Change::SelectZero,
+                ConnectAt::Power(dpidr),
+                Op::DpWrite {
+                    addr: CTRL_STAT,
+                    word: CDBGPWRUPREQ + CSYSPWRUPREQ,
+                },
+            ),
+            ConnectAt::Power(dpidr) => poll_on(dpidr, POLLS),
+            ConnectAt::Poll { dpidr, left } => polled_by(dpidr, left, v),
+            ConnectAt::Pulse => ended(Ok(0)),
+        }
+    }
+
+    // An error ends the call.
+    fn failed_after(_p: ConnectAt, e: ArmError) -> Asks {
+        ended(Err(e))
+    }
+}
+
+// What follows an operation of a connect, by its outcome.
 pub fn call_after(at: At, o: Outcome) -> Asks
     ensures { connect_after at o ≡ asks result.change result.next (connect_after result.at) }
 {
-    match o {
-        Outcome::Value(v) => value_after(unpack(at), v),
-        Outcome::Failed(e) => ended(Outcome::Failed(e)),
-    }
+    call::call_after::<ConnectCall>(at, o)
 }

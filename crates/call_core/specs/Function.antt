@@ -3,12 +3,13 @@
 -- Registers pass through the room: a frame stands in its places 0 to 7, and what a function starts with in 8 to 15.
 use Rattle.std.specs.Prelude.{ℕ, zero, suc, ◌+◌, ◌-◌, ◌*◌, ◌/◌, ◌%◌, ◌^◌, cond, List, [], ◌∷◌, eqb, get_or}
 use Rattle.wire.specs.declared.ArmError.TheVariants as E
-use Rattle.wire.specs.declared.Outcome.{Outcome}
+use Rattle.wire.specs.Outcomes.{Outcome}
 use Rattle.wire_memap.specs.declared.Op.TheVariants as O
 use Rattle.call.specs.Job.{Job, ends, attempt, ◌>>=◌, ◌>>◌, return, fail, just, keeping, read_word_of, write_word}
 use Rattle.call.specs.declared.Change.TheVariants as C
 use Rattle.call_core.specs.Cortex.{DHCSR, DCRDR, DBGKEY, C_DEBUGEN, C_HALT, C_MASKINTS, S_HALT, stands, R0, SP, LR, PC, XPSR}
 use Rattle.call_core.specs.Core.{debug_enable, wait_status, halt, resume, step, is_halted, read_core_reg, store_core_reg, write_core_reg}
+use Rattle.call_core.specs.Frame.{starts_with, registers_of}
 use Rattle.call_core.specs.declared.Function.{Function}
 use Rattle.call_core.specs.declared.CallFrame.{CallFrame}
 use Rattle.call_core.specs.declared.CoreCall.{CoreCall}
@@ -93,11 +94,11 @@ MASKED = DBGKEY + C_DEBUGEN + C_MASKINTS
 abbrev pub BKPT_TWICE : ℕ
 BKPT_TWICE = 0xBE00BE00
 
--- The function returns to two BKPTs at the trampoline, and lr has its Thumb bit set. C_MASKINTS may change only while the
+-- The function returns to two BKPTs at the trampoline. C_MASKINTS may change only while the
 -- core is halted.
 abbrev pub start_function : Function → Job
 start_function f = do
-  keeping (C.Registers f.a0 f.a1 f.a2 f.a3 f.sp (f.trampoline - f.trampoline % 2 + 1) f.fn_addr)
+  keeping (C.Registers (starts_with f))
   save_regs 8
   write_word (f.trampoline - f.trampoline % 4) BKPT_TWICE
   write_regs 8 8
@@ -123,7 +124,7 @@ finishing polls = attempt (wait_status S_HALT polls) after_wait
 
 abbrev pub finish_function : CallFrame → ℕ → Job
 finish_function frame polls = do
-  keeping (C.Frame frame.r0 frame.r1 frame.r2 frame.r3 frame.sp frame.lr frame.pc frame.xpsr)
+  keeping (C.Frame (registers_of frame))
   finishing polls
 
 -- start_function leaves the frame in its places

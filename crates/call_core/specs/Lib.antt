@@ -1,4 +1,5 @@
 pub mod Cortex
 pub mod Core
+pub mod Frame
 pub mod Function
 pub mod Laws

@@ -11,14 +11,15 @@ ghost use Rattle.wire_memap.specs.declared.Op.TheVariants.{ReadWord, WriteWord};
 ghost use Rattle.call.specs.Job.{ends, attempt, or_fail};
 ghost use Rattle.call.specs.Laws.Asks.{asks, keep_some, next_job, op_then};
 ghost use Rattle.call_core.specs.Cortex as Cortex;
+ghost use Rattle.call_core.specs.Frame.{registers_of, frame_of, function_of};
 ghost use Rattle.call_core.specs.Function as Functions;
 ghost use Rattle.call_core.specs.Function.{core_job, joined, look_from, clobbered, write_row_reg, finishing, finish_function, after_wait};
 ghost use Rattle.call_core.specs.Laws.After.{bit_of, waiting, polled, access_on, access_after, entry_of, tabled, matching, find_on, ending, looking, looked, setting, saving, beginning, restoring, resulting};
-ghost use Rattle.call_core.specs.Laws.After.{run_on, over_on, then_on, goes_on_of, stops_at, phase_after, core_after};
+ghost use Rattle.call_core.specs.Laws.After.{run_on, over_on, then_on, phase_after, core_after};
 ghost use Rattle.call_places.specs.declared.CoreAt.TheVariants.{Access};
 ghost use Rattle.call_places.specs.declared.Wait.TheVariants.{Halt};
 
-use call::{Asks, Change, Next};
+use call::{Asks, Change, GoesOn, Group, Next, changing, doing, ended};
 use call_at::At;
 use call_places::{AccessAt, CoreAt, FindStep, Plan, RunStep, Search, Then, Wait};
 use wire::{ArmError, Outcome};
@@ -47,6 +48,50 @@ pub struct CallFrame {
     pub lr: u32,
     pub pc: u32,
     pub xpsr: u32,
+}
+
+// Words in the order of the fields.
+impl From<[u32; 7]> for Function {
+    ghost from_gives = { λ words f. f ≡ function_of words };
+
+    fn from(words: [u32; 7]) -> Function {
+        let [fn_addr, a0, a1, a2, a3, sp, trampoline] = words;
+        Function {
+            fn_addr,
+            a0,
+            a1,
+            a2,
+            a3,
+            sp,
+            trampoline,
+        }
+    }
+}
+
+impl From<[u32; 8]> for CallFrame {
+    ghost from_gives = { λ words f. f ≡ frame_of words };
+
+    fn from(words: [u32; 8]) -> CallFrame {
+        let [r0, r1, r2, r3, sp, lr, pc, xpsr] = words;
+        CallFrame {
+            r0,
+            r1,
+            r2,
+            r3,
+            sp,
+            lr,
+            pc,
+            xpsr,
+        }
+    }
+}
+
+impl From<CallFrame> for [u32; 8] {
+    ghost from_gives = { λ f words. words ≡ registers_of f };
+
+    fn from(f: CallFrame) -> [u32; 8] {
+        [f.r0, f.r1, f.r2, f.r3, f.sp, f.lr, f.pc, f.xpsr]
+    }
 }
 
 // Call 23 leaves its frame in the room's places 0 to 7. The last number of 24 and 25 is their polls.
@@ -113,6 +158,9 @@ const PC: u8 = 15;
 
 const XPSR: u8 = 16;
 
+// The xPSR that a function starts with: its T bit alone.
+const XPSR_THUMB: u32 = 0x01000000;
+
 // The registers that a function may change, in the order of a frame.
 const CLOBBERED: [u8; 8] = [R0, 1, 2, 3, SP, LR, PC, XPSR];
 
@@ -136,11 +184,7 @@ const LOOKS: u32 = 64;
 fn register_at(i: u32) -> u8
     ensures { result ≡ get_or clobbered i 0 }
 {
-    let j = i as usize;
-    if j < 8 {
-        return CLOBBERED[j];
-    }
-    0
+    slots::get_or(&CLOBBERED, i as usize, 0)
 }
 
 // Whether the status bit stands that a wait is for.
@@ -149,8 +193,7 @@ fn status(w: Wait, v: u32) -> bool
 {
     match w {
         Wait::Halt => v / S_HALT % 2 == 1,
-        Wait::Read => v / S_REGRDY % 2 == 1,
-        Wait::Write => v / S_REGRDY % 2 == 1,
+        Wait::Read | Wait::Write => v / S_REGRDY % 2 == 1,
     }
 }
 
@@ -169,17 +212,18 @@ fn access_doing(at: AccessAt, op: Op) -> AccessAsks
     ensures { op_then op (access_after at) ≡ next_job result.next (access_after result.at) }
 {
     AccessAsks {
-        at: at,
+        at,
         next: Next::Do(op),
     }
 }
 
 // `left` more reads of DHCSR.
+#[tactic(auto, using(crate::specs::Laws::Turns::waiting_none, crate::specs::Laws::Turns::waiting_more))]
 fn wait_on(w: Wait, left: u32) -> AccessAsks
     ensures { waiting w left ≡ next_job result.next (access_after result.at) }
 {
     if left == 0 {
-        return access_ended(Outcome::Failed(ArmError::CoreTimeout));
+        return access_ended(Err(ArmError::CoreTimeout));
     }
     access_doing(
         AccessAt::Poll {
@@ -198,9 +242,9 @@ fn polled_by(w: Wait, left: u32, v: u32) -> AccessAsks
         return wait_on(w, left);
     }
     match w {
-        Wait::Halt => access_ended(Outcome::Value(0)),
+        Wait::Halt => access_ended(Ok(0)),
         Wait::Read => access_doing(AccessAt::Whole, Op::ReadWord { addr: DCRDR }),
-        Wait::Write => access_ended(Outcome::Value(0)),
+        Wait::Write => access_ended(Ok(0)),
     }
 }
 
@@ -209,39 +253,17 @@ fn access_on(p: AccessAt, v: u32) -> AccessAsks
     ensures { access_on p v ≡ next_job result.next (access_after result.at) }
 {
     match p {
-        AccessAt::Whole => access_ended(Outcome::Value(v)),
-        AccessAt::Halted => access_ended(Outcome::Value(v / S_HALT % 2)),
+        AccessAt::Whole => access_ended(Ok(v)),
+        AccessAt::Halted => access_ended(Ok(v / S_HALT % 2)),
         AccessAt::Asked(w) => wait_on(w, POLLS),
         AccessAt::Poll { wait, left } => polled_by(wait, left, v),
         AccessAt::Data(reg) => access_doing(
             AccessAt::Asked(Wait::Write),
             Op::WriteWord {
                 addr: DCRSR,
-                word: (reg as u32) + DCRSR_REGWNR,
+                word: u32::from(reg) + DCRSR_REGWNR,
             },
         ),
-    }
-}
-
-// The call ends.
-fn ended(o: Outcome) -> Asks
-    ensures { ends o ≡ asks result.change result.next (core_after result.at) }
-{
-    Asks {
-        change: Change::Nothing,
-        at: call_at::at_step(0, 0, 0, 0, 0, 0),
-        next: Next::End(o),
-    }
-}
-
-// The operation `op`, and nothing is changed before it.
-fn doing(at: CoreAt, op: Op) -> Asks
-    ensures { op_then op (phase_after at) ≡ asks result.change result.next (core_after result.at) }
-{
-    Asks {
-        change: Change::Nothing,
-        at: call_places::pack_core(at),
-        next: Next::Do(op),
     }
 }
 
@@ -249,7 +271,7 @@ fn doing(at: CoreAt, op: Op) -> Asks
 fn entry_of(s: Search) -> u32
     ensures { result ≡ entry_of s }
 {
-    (s.table as u32) + 4 * wire_memap::minus(ENTRIES as u32, s.left as u32)
+    u32::from(s.table) + 4 * u32::from(ENTRIES.saturating_sub(s.left))
 }
 
 // The four bytes from byte `skip` of one word on, the rest of them in the word after it.
@@ -269,22 +291,23 @@ fn join(skip: u32, low: u32, high: u32) -> u32
 fn finding(step: FindStep, low: u32, s: Search, addr: u32) -> Asks
     ensures { op_then (ReadWord addr) (or_fail (find_on step low s)) ≡ asks result.change result.next (core_after result.at) }
 {
-    doing(
+    doing::<CoreCall>(
         CoreAt::Find {
-            step: step,
-            low: low,
+            step,
+            low,
             search: s,
         },
-        Op::ReadWord { addr: addr },
+        Op::ReadWord { addr },
     )
 }
 
 // The next entry is read: in one word, or in two.
+#[tactic(auto, using(crate::specs::Laws::Turns::look_more), unfolding(crate::specs::Function::look_from))]
 fn find_next(s: Search) -> Asks
     ensures { look_from s.want s.table s.left ≡ asks result.change result.next (core_after result.at) }
 {
     if s.left == 0 {
-        return ended(Outcome::Failed(ArmError::TableEnd));
+        return ended(Err(ArmError::TableEnd));
     }
     let entry = entry_of(s);
     if entry % 4 == 0 {
@@ -301,7 +324,7 @@ fn look_up(want: u32) -> Asks
         FindStep::Table,
         0,
         Search {
-            want: want,
+            want,
             table: 0,
             left: 0,
         },
@@ -315,16 +338,14 @@ fn matched(s: Search, entry: u32) -> Asks
 {
     let tag = entry % 0x10000;
     if tag == 0 {
-        return ended(Outcome::Value(NOT_FOUND));
+        return ended(Ok(NOT_FOUND));
     }
     if tag == s.want {
-        return ended(Outcome::Value(entry / 0x10000));
+        return ended(Ok(entry / 0x10000));
     }
-    let left = wire_memap::minus(s.left as u32, 1);
     find_next(Search {
-        want: s.want,
-        table: s.table,
-        left: left as u16,
+        left: s.left.saturating_sub(1),
+        ..s
     })
 }
 
@@ -349,14 +370,7 @@ fn find_on(step: FindStep, low: u32, s: Search, v: u32) -> Asks
 fn writing(change: Change, at: CoreAt, addr: u32, word: u32) -> Asks
     ensures { keep_some change (op_then (WriteWord addr word) (phase_after at)) ≡ asks result.change result.next (core_after result.at) }
 {
-    Asks {
-        change: change,
-        at: call_places::pack_core(at),
-        next: Next::Do(Op::WriteWord {
-            addr: addr,
-            word: word,
-        }),
-    }
+    changing::<CoreCall>(change, at, Op::WriteWord { addr, word })
 }
 
 // The last `left` registers of the frame are saved, and then the trampoline is planted. `change` comes first.
@@ -370,25 +384,22 @@ fn save_on(change: Change, left: u32, plan: Plan) -> Asks
             CoreAt::Run {
                 step: RunStep::Planted,
                 left: 0,
-                plan: plan,
+                plan,
             },
             t - t % 4,
             BKPT_TWICE,
         );
     }
-    let reg = register_at(wire_memap::minus(8, left));
-    let then = Then::Save {
-        left: left,
-        plan: plan,
-    };
+    let reg = register_at(8u32.saturating_sub(left));
+    let then = Then::Save { left, plan };
     writing(
         change,
         CoreAt::Access {
             at: AccessAt::Asked(Wait::Read),
-            then: then,
+            then,
         },
         DCRSR,
-        reg as u32,
+        u32::from(reg),
     )
 }
 
@@ -398,8 +409,8 @@ fn register_set(i: u32, then: Then, place: u32) -> Asks
         ≡ asks result.change result.next (core_after result.at) }
 {
     let at = AccessAt::Data(register_at(i));
-    doing(
-        CoreAt::Access { at: at, then: then },
+    doing::<CoreCall>(
+        CoreAt::Access { at, then },
         Op::WriteWords {
             addr: DCRDR,
             n: 1,
@@ -412,53 +423,38 @@ fn register_set(i: u32, then: Then, place: u32) -> Asks
 fn running(step: RunStep, plan: Plan, word: u32) -> Asks
     ensures { op_then (WriteWord Cortex.DHCSR word) (or_fail (run_on step 0 plan)) ≡ asks result.change result.next (core_after result.at) }
 {
-    doing(
+    doing::<CoreCall>(
         CoreAt::Run {
-            step: step,
+            step,
             left: 0,
-            plan: plan,
+            plan,
         },
-        Op::WriteWord {
-            addr: DHCSR,
-            word: word,
-        },
+        Op::WriteWord { addr: DHCSR, word },
     )
 }
 
 // The last `left` registers get what a function starts with, and then the core is to be released.
+#[tactic(auto, unfolding(crate::specs::Function::write_regs))]
 fn set_on(left: u32, plan: Plan) -> Asks
     ensures { setting left plan ≡ asks result.change result.next (core_after result.at) }
 {
     if left == 0 {
         return running(RunStep::Masked, plan, MASKED + C_HALT);
     }
-    let i = wire_memap::minus(8, left);
-    register_set(
-        i,
-        Then::Set {
-            left: left,
-            plan: plan,
-        },
-        8 + i,
-    )
+    let i = 8u32.saturating_sub(left);
+    register_set(i, Then::Set { left, plan }, 8 + i)
 }
 
 // The last `left` registers of the frame are restored, and then the call ends.
+#[tactic(auto, unfolding(crate::specs::Function::write_regs))]
 fn restore_on(left: u32, value: u32) -> Asks
     ensures { restoring left value ≡ asks result.change result.next (core_after result.at) }
 {
     if left == 0 {
-        return ended(Outcome::Value(value));
+        return ended(Ok(value));
     }
-    let i = wire_memap::minus(8, left);
-    register_set(
-        i,
-        Then::Restore {
-            left: left,
-            value: value,
-        },
-        i,
-    )
+    let i = 8u32.saturating_sub(left);
+    register_set(i, Then::Restore { left, value }, i)
 }
 
 // An access gave the value `v`.
@@ -466,18 +462,18 @@ fn then_on(t: Then, v: u32) -> Asks
     ensures { then_on t v ≡ asks result.change result.next (core_after result.at) }
 {
     match t {
-        Then::End => ended(Outcome::Value(v)),
+        Then::End => ended(Ok(v)),
         Then::Save { left, plan } => save_on(
             Change::Put {
-                at: wire_memap::minus(8, left),
+                at: 8u32.saturating_sub(left),
                 word: v,
             },
-            wire_memap::minus(left, 1),
+            left.saturating_sub(1),
             plan,
         ),
-        Then::Set { left, plan } => set_on(wire_memap::minus(left, 1), plan),
+        Then::Set { left, plan } => set_on(left.saturating_sub(1), plan),
         Then::Result => restore_on(8, v),
-        Then::Restore { left, value } => restore_on(wire_memap::minus(left, 1), value),
+        Then::Restore { left, value } => restore_on(left.saturating_sub(1), value),
     }
 }
 
@@ -485,14 +481,10 @@ fn then_on(t: Then, v: u32) -> Asks
 fn follow(t: Then, a: AccessAsks) -> Asks
     ensures { attempt (next_job a.next (access_after a.at)) (or_fail (then_on t)) ≡ asks result.change result.next (core_after result.at) }
 {
-    let at = a.at;
-    let next = a.next;
-    match next {
-        Next::Do(op) => doing(CoreAt::Access { at: at, then: t }, op),
-        Next::End(o) => match o {
-            Outcome::Value(v) => then_on(t, v),
-            Outcome::Failed(e) => ended(Outcome::Failed(e)),
-        },
+    match a.next {
+        Next::Do(op) => doing::<CoreCall>(CoreAt::Access { at: a.at, then: t }, op),
+        Next::End(Ok(v)) => then_on(t, v),
+        Next::End(Err(e)) => ended(Err(e)),
     }
 }
 
@@ -504,7 +496,7 @@ fn halt_again(change: Change, waited: Outcome) -> Asks
         change,
         CoreAt::Over {
             unmasked: false,
-            waited: waited,
+            waited,
         },
         DHCSR,
         MASKED + C_HALT,
@@ -512,17 +504,14 @@ fn halt_again(change: Change, waited: Outcome) -> Asks
 }
 
 // The second half of a function's call: `left` more reads of DHCSR. `change` comes first.
+#[tactic(auto, using(crate::specs::Laws::Turns::finish_more), unfolding(crate::specs::Core::wait_status))]
 fn finish(change: Change, left: u32) -> Asks
     ensures { keep_some change (finishing left) ≡ asks result.change result.next (core_after result.at) }
 {
     if left == 0 {
-        return halt_again(change, Outcome::Failed(ArmError::CoreTimeout));
+        return halt_again(change, Err(ArmError::CoreTimeout));
     }
-    Asks {
-        change: change,
-        at: call_places::pack_core(CoreAt::Wait(left - 1)),
-        next: Next::Do(Op::ReadWord { addr: DHCSR }),
-    }
+    changing::<CoreCall>(change, CoreAt::Wait(left - 1), Op::ReadWord { addr: DHCSR })
 }
 
 // DHCSR is read in the wait for a function's end.
@@ -530,7 +519,7 @@ fn waited_by(left: u32, v: u32) -> Asks
     ensures { attempt (polled Halt left v) after_wait ≡ asks result.change result.next (core_after result.at) }
 {
     if v / S_HALT % 2 == 1 {
-        return halt_again(Change::Nothing, Outcome::Value(0));
+        return halt_again(Change::Nothing, Ok(0));
     }
     finish(Change::Nothing, left)
 }
@@ -540,16 +529,16 @@ fn result_of(waited: Outcome) -> Asks
     ensures { resulting waited ≡ asks result.change result.next (core_after result.at) }
 {
     match waited {
-        Outcome::Value(_) => writing(
+        Ok(_) => writing(
             Change::Nothing,
             CoreAt::Access {
                 at: AccessAt::Asked(Wait::Read),
                 then: Then::Result,
             },
             DCRSR,
-            R0 as u32,
+            u32::from(R0),
         ),
-        Outcome::Failed(e) => ended(Outcome::Failed(e)),
+        Err(e) => ended(Err(e)),
     }
 }
 
@@ -560,10 +549,10 @@ fn over_on(unmasked: bool, waited: Outcome) -> Asks
     if unmasked {
         return result_of(waited);
     }
-    doing(
+    doing::<CoreCall>(
         CoreAt::Over {
             unmasked: true,
-            waited: waited,
+            waited,
         },
         Op::WriteWord {
             addr: DHCSR,
@@ -579,21 +568,22 @@ fn end_of(plan: Plan) -> Asks
     if plan.finish {
         return finish(Change::Nothing, plan.polls);
     }
-    ended(Outcome::Value(0))
+    ended(Ok(0))
 }
 
 // `left` more looks whether the core runs.
+#[tactic(auto, using(crate::specs::Laws::Turns::looking_more), unfolding(crate::specs::Function::look_running))]
 fn look_on(left: u32, plan: Plan) -> Asks
     ensures { looking left plan ≡ asks result.change result.next (core_after result.at) }
 {
     if left == 0 {
         return end_of(plan);
     }
-    doing(
+    doing::<CoreCall>(
         CoreAt::Run {
             step: RunStep::Look,
             left: left - 1,
-            plan: plan,
+            plan,
         },
         Op::ReadWord { addr: DHCSR },
     )
@@ -626,22 +616,15 @@ fn begin(f: Function, finish: bool, polls: u32) -> Asks
     ensures { beginning f finish polls ≡ asks result.change result.next (core_after result.at) }
 {
     let t = f.trampoline;
-    let registers = Change::Registers {
-        r0: f.a0,
-        r1: f.a1,
-        r2: f.a2,
-        r3: f.a3,
-        sp: f.sp,
-        lr: t - t % 2 + 1,
-        pc: f.fn_addr,
-    };
+    let lr = t - t % 2 + 1;
+    let registers = [f.a0, f.a1, f.a2, f.a3, f.sp, lr, f.fn_addr, XPSR_THUMB];
     save_on(
-        registers,
+        Change::Registers(registers),
         8,
         Plan {
             trampoline: t,
-            finish: finish,
-            polls: polls,
+            finish,
+            polls,
         },
     )
 }
@@ -650,26 +633,17 @@ fn begin(f: Function, finish: bool, polls: u32) -> Asks
 fn finish_from(frame: CallFrame, polls: u32) -> Asks
     ensures { finish_function frame polls ≡ asks result.change result.next (core_after result.at) }
 {
-    let given = Change::Frame {
-        r0: frame.r0,
-        r1: frame.r1,
-        r2: frame.r2,
-        r3: frame.r3,
-        sp: frame.sp,
-        lr: frame.lr,
-        pc: frame.pc,
-        xpsr: frame.xpsr,
-    };
-    finish(given, polls)
+    finish(Change::Frame(frame.into()), polls)
 }
 
 // A call that is one access.
+#[tactic(auto, using(call::specs::Laws::Job::bind_return))]
 fn alone(at: AccessAt, op: Op) -> Asks
     ensures { op_then op (access_after at) ≡ asks result.change result.next (core_after result.at) }
 {
-    doing(
+    doing::<CoreCall>(
         CoreAt::Access {
-            at: at,
+            at,
             then: Then::End,
         },
         op,
@@ -677,6 +651,7 @@ fn alone(at: AccessAt, op: Op) -> Asks
 }
 
 // What a call asks for first.
+#[tactic(auto, unfolding(crate::specs::Function::core_job))]
 pub fn start(c: CoreCall) -> Asks
     ensures { core_job c ≡ asks result.change result.next (core_after result.at) }
 {
@@ -714,7 +689,7 @@ pub fn start(c: CoreCall) -> Asks
             AccessAt::Asked(Wait::Read),
             Op::WriteWord {
                 addr: DCRSR,
-                word: reg as u32,
+                word: u32::from(reg),
             },
         ),
         CoreCall::WriteCoreReg(reg, value) => alone(
@@ -724,47 +699,41 @@ pub fn start(c: CoreCall) -> Asks
                 word: value,
             },
         ),
-        CoreCall::RomFuncLookup(first, second) => look_up((first as u32) + 0x100 * (second as u32)),
+        CoreCall::RomFuncLookup(first, second) => look_up(
+            u32::from(first) + 0x100 * u32::from(second),
+        ),
         CoreCall::StartFunction(f) => begin(f, false, 0),
         CoreCall::FinishFunction(frame, polls) => finish_from(frame, polls),
         CoreCall::CallFunction(f, polls) => begin(f, true, polls),
     }
 }
 
-// What follows an operation that gave the value `v`.
-fn value_after(p: CoreAt, v: u32) -> Asks
-    ensures { goes_on_of p v ≡ asks result.change result.next (core_after result.at) }
-{
-    match p {
-        CoreAt::Access { at, then } => follow(then, access_on(at, v)),
-        CoreAt::Find { step, low, search } => find_on(step, low, search, v),
-        CoreAt::Run { step, left, plan } => run_on(step, left, plan, v),
-        CoreAt::Wait(left) => waited_by(left, v),
-        CoreAt::Over { unmasked, waited } => over_on(unmasked, waited),
-    }
+impl Group for CoreCall {
+    type Phase = CoreAt;
+
+    ghost after = { phase_after };
 }
 
-// An error ends the call, except that of the wait for a function's end.
-fn failed_after(p: CoreAt, e: ArmError) -> Asks
-    ensures { stops_at p e ≡ asks result.change result.next (core_after result.at) }
-{
-    match p {
-        CoreAt::Access { at: _, then: _ } => ended(Outcome::Failed(e)),
-        CoreAt::Find {
-            step: _,
-            low: _,
-            search: _,
-        } => ended(Outcome::Failed(e)),
-        CoreAt::Run {
-            step: _,
-            left: _,
-            plan: _,
-        } => ended(Outcome::Failed(e)),
-        CoreAt::Wait(_) => halt_again(Change::Nothing, Outcome::Failed(e)),
-        CoreAt::Over {
-            unmasked: _,
-            waited: _,
-        } => ended(Outcome::Failed(e)),
+impl GoesOn for CoreCall {
+    fn value_after(p: CoreAt, v: u32) -> Asks {
+        match p {
+            CoreAt::Access { at, then } => follow(then, access_on(at, v)),
+            CoreAt::Find { step, low, search } => find_on(step, low, search, v),
+            CoreAt::Run { step, left, plan } => run_on(step, left, plan, v),
+            CoreAt::Wait(left) => waited_by(left, v),
+            CoreAt::Over { unmasked, waited } => over_on(unmasked, waited),
+        }
+    }
+
+    // An error ends the call, except that of the wait for a function's end.
+    fn failed_after(p: CoreAt, e: ArmError) -> Asks {
+        match p {
+            CoreAt::Wait(_) => halt_again(Change::Nothing, Err(e)),
+            CoreAt::Access { .. }
+            | CoreAt::Find { .. }
+            | CoreAt::Run { .. }
+            | CoreAt::Over { .. } => ended(Err(e)),
+        }
     }
 }
 
@@ -772,9 +741,5 @@ fn failed_after(p: CoreAt, e: ArmError) -> Asks
 pub fn call_after(at: At, o: Outcome) -> Asks
     ensures { core_after at o ≡ asks result.change result.next (core_after result.at) }
 {
-    let p = call_places::unpack_core(at);
-    match o {
-        Outcome::Value(v) => value_after(p, v),
-        Outcome::Failed(e) => failed_after(p, e),
-    }
+    call::call_after::<CoreCall>(at, o)
 }

@@ -1,12 +1,8 @@
 -- Copyright 2026 Kenta Ida. SPDX-License-Identifier: Apache-2.0. Ported from arm-debug/src/lib.rs of ciniml/rust-dap.
 -- Hardware breakpoints (000: fpb_num_comps to hw_breakpoint_at). Yes is 1 and no is 0.
-use Rattle.std.specs.Prelude.{ℕ, zero, suc, ◌+◌, ◌-◌, ◌*◌, ◌/◌, ◌%◌, cond, eqb, leb}
+use Rattle.std.specs.Prelude.{ℕ, zero, suc, ◌+◌, ◌-◌, ◌*◌, ◌/◌, ◌%◌, cond, eqb, leb, Option, None, Some}
 use Rattle.call.specs.Job.{Job, ◌>>=◌, ◌>>◌, return, read_word_of, write_word}
 use Rattle.call_fpb.specs.Fpb as fpb
-use Rattle.call_fpb.specs.declared.CompValue.{CompValue}
-use Rattle.call_fpb.specs.declared.CompValue.TheVariants as P
-use Rattle.call_places.specs.declared.Free.{Free}
-use Rattle.call_places.specs.declared.Free.TheVariants as F
 use Rattle.call_fpb.specs.declared.FpbCall.{FpbCall}
 use Rattle.call_fpb.specs.declared.FpbCall.TheVariants as N
 
@@ -31,15 +27,15 @@ fpb_num_comps = do
 
 -- What a comparator holds for a breakpoint at `addr`, if there can be one. From revision 1 on: the halfword's address. Revision 0, which
 -- reaches code below 0x20000000 alone: REPLACE, bits 31:30, is 2 for the upper halfword and 1 for the lower; then the word's address.
-abbrev pub fpb_comp_value : ℕ → ℕ → CompValue
+abbrev pub fpb_comp_value : ℕ → ℕ → Option ℕ
 fpb_comp_value addr rev =
-    cond (leb 1 rev) (P.Some (addr - addr % 2 + fpb.COMP_ENABLE))
-    (cond (leb 0x20000000 addr) P.None (P.Some ((1 + addr / 2 % 2) * 0x40000000 + (addr - addr % 4) + fpb.COMP_ENABLE)))
+    cond (leb 1 rev) (Some (addr - addr % 2 + fpb.COMP_ENABLE))
+    (cond (leb 0x20000000 addr) None (Some ((1 + addr / 2 % 2) * 0x40000000 + (addr - addr % 4) + fpb.COMP_ENABLE)))
 
 -- where there is no value the call ends with no
-abbrev pub breakable : CompValue → (ℕ → Job) → Job
-breakable P.None next = no
-breakable (P.Some value) next = next value
+abbrev pub breakable : Option ℕ → (ℕ → Job) → Job
+breakable None next = no
+breakable (Some value) next = next value
 
 abbrev pub fpb_rev : Job
 fpb_rev = do
@@ -51,19 +47,19 @@ abbrev pub comparator : ℕ → ℕ
 comparator i = fpb.FP_COMP0 + 4 * i
 
 -- comparator i is the first free one, unless one was found before it; a free one has bit 0 clear
-abbrev pub first_free : Free → ℕ → ℕ → Free
-first_free (F.At j) i comp = F.At j
-first_free F.Nowhere i comp = cond (eqb (comp % 2) 0) (F.At i) F.Nowhere
+abbrev pub first_free : Option ℕ → ℕ → ℕ → Option ℕ
+first_free (Some j) i comp = Some j
+first_free None i comp = cond (eqb (comp % 2) 0) (Some i) None
 
 -- the value goes to the free comparator
-abbrev pub take_free : ℕ → Free → Job
-take_free value (F.At i) = do
+abbrev pub take_free : ℕ → Option ℕ → Job
+take_free value (Some i) = do
   write_word (comparator i) value
   yes
-take_free value F.Nowhere = no
+take_free value None = no
 
 -- `left` of n comparators to go: all of them are looked at before a free one is taken
-unfoldable pub seek : ℕ → ℕ → ℕ → Free → Job
+unfoldable pub seek : ℕ → ℕ → ℕ → Option ℕ → Job
 seek value n zero free = take_free value free
 seek value n (suc left) free = do
   comp ← read_word_of (comparator (n - suc left))
@@ -78,7 +74,7 @@ hw_breakpoint_set addr = do
   ctrl ← read_word_of fpb.FP_CTRL
   breakable (fpb_comp_value addr (revision ctrl)) (λ value. cond (eqb (num_code ctrl) 0) no (do
     write_word fpb.FP_CTRL (enabled ctrl)
-    seek value (num_code ctrl) (num_code ctrl) F.Nowhere))
+    seek value (num_code ctrl) (num_code ctrl) None))
 
 -- `left` of n comparators to go: the first one that holds the value, by its number, is found
 unfoldable pub find : (ℕ → Job) → ℕ → ℕ → ℕ → Job

@@ -5,19 +5,18 @@
 // Calls 6 to 14: raw registers of an access port, words and memory. Each function says what a call asks for next.
 #![tactic(auto)]
 
-ghost use Rattle.std.specs.Prelude.{true, ◌≡◌, ◌-◌, ◌*◌, ◌%◌, min, leb};
-ghost use Rattle.call.specs.Job.{ends, just};
+ghost use Rattle.std.specs.Prelude.{true, ◌≡◌, ◌-◌, ◌*◌, leb};
+ghost use Rattle.call.specs.Job.{just};
 ghost use Rattle.call.specs.Laws.Asks.{asks, keep_some, op_then};
 ghost use Rattle.call.specs.declared.Change.TheVariants.{Nothing};
 ghost use Rattle.call_memory.specs.Memory.{memory_job, read_words, write_words, in_range, mem, mem_from, run_words};
 ghost use Rattle.call_memory.specs.Laws.Turns.{move_run, move_bytes};
-ghost use Rattle.call_memory.specs.Laws.After.{memory_after, phase_after, memory_at_of, turn_of, goes_on_of, addr_of, place_of, rest};
-ghost use Rattle.call_memory.specs.declared.Mem.{Mem};
+ghost use Rattle.call_memory.specs.Laws.After.{memory_after, phase_after, memory_at_of, goes_on_of, addr_of, place_of, rest};
 ghost use Rattle.call_memory.specs.declared.MemoryAt.TheVariants.{Turn};
 ghost use Rattle.call_memory.specs.declared.TurnStep.TheVariants.{ReadRun, ReadPart, PartRead};
 
-use call::{Asks, Change, Next};
-use call_at::At;
+use call::{Asks, Change, GoesOn, Group, changing, doing, ended, ended_after};
+use call_at::{At, Packed, at_step};
 use wire::{ArmError, Outcome};
 use wire_memap::Op;
 
@@ -63,152 +62,95 @@ pub enum MemoryAt {
     Turn { step: TurnStep, mem: Mem },
 }
 
-// As many addresses as a target has: 2^32.
-const ADDRESSES: usize = 0x100000000;
-
 // `left` bytes less `n` words.
 fn minus_words(left: u32, n: u32) -> u32
     ensures { result ≡ left - 4 * n }
 {
-    if left / 4 < n {
-        return 0;
-    }
-    left - 4 * n
-}
-
-fn smaller(a: u32, b: u32) -> u32
-    ensures { result ≡ min a b }
-{
-    if a <= b {
-        return a;
-    }
-    b
+    left.saturating_sub(n.saturating_mul(4))
 }
 
 // The words of one run of read_mem and write_mem.
 fn run_words(addr: u32, words: u32) -> u32
     ensures { result ≡ run_words addr words }
 {
-    smaller(smaller((1024 - addr % 1024) / 4, words), 64)
+    ((1024 - addr % 1024) / 4).min(words).min(64)
 }
 
-// A turn's step as a number from 1 on.
-fn step_number(step: TurnStep) -> u32
-    ensures { (m : Mem) → turn_of (result % 32) m ≡ Turn step m }
+// The operation of a turn that is in flight, in numbers: which one it is, and the turn.
+fn turn_at(number: u32, m: Mem) -> At
+    ensures { result ≡ record { step = number; a = m.stop; b = m.len; c = m.left; d = m.size; e = 0 } }
 {
-    match step {
-        TurnStep::ReadRun => 1,
-        TurnStep::ReadPart => 2,
-        TurnStep::WriteRun => 3,
-        TurnStep::PartRead => 4,
-        TurnStep::PartWritten => 5,
+    at_step(number, m.stop, m.len, m.left, m.size, 0)
+}
+
+// Stays: numbers for phases: the words of a session hold them, and any words are some phase.
+impl Packed<At> for MemoryAt {
+    ghost told = { λ at. memory_at_of at };
+
+    fn pack(self) -> At {
+        match self {
+            MemoryAt::Whole => at_step(0, 0, 0, 0, 0, 0),
+            MemoryAt::Turn { step, mem } => match step {
+                TurnStep::ReadRun => turn_at(1, mem),
+                TurnStep::ReadPart => turn_at(2, mem),
+                TurnStep::WriteRun => turn_at(3, mem),
+                TurnStep::PartRead => turn_at(4, mem),
+                TurnStep::PartWritten => turn_at(5, mem),
+            },
+        }
     }
-}
 
-// The operation of a turn that is in flight, in numbers.
-fn pack(step: TurnStep, m: Mem) -> At
-    ensures { memory_at_of result ≡ Turn step m }
-{
-    call_at::at_step(step_number(step), m.stop, m.len, m.left, m.size, 0)
-}
-
-// Which operation is in flight.
-fn unpack(at: At) -> MemoryAt
-    ensures { result ≡ memory_at_of at }
-{
-    let m = Mem {
-        stop: at.a,
-        len: at.b,
-        left: at.c,
-        size: at.d,
-    };
-    let n = at.step % 32;
-    match n {
-        0 => MemoryAt::Whole,
-        1 => MemoryAt::Turn {
-            step: TurnStep::ReadRun,
-            mem: m,
-        },
-        2 => MemoryAt::Turn {
-            step: TurnStep::ReadPart,
-            mem: m,
-        },
-        3 => MemoryAt::Turn {
-            step: TurnStep::WriteRun,
-            mem: m,
-        },
-        4 => MemoryAt::Turn {
-            step: TurnStep::PartRead,
-            mem: m,
-        },
-        _ => MemoryAt::Turn {
-            step: TurnStep::PartWritten,
-            mem: m,
-        },
-    }
-}
-
-// The call ends.
-fn ended(o: Outcome) -> Asks
-    ensures { ends o ≡ asks result.change result.next (memory_after result.at) }
-{
-    Asks {
-        change: Change::Nothing,
-        at: call_at::at_step(0, 0, 0, 0, 0, 0),
-        next: Next::End(o),
-    }
-}
-
-// An operation whose outcome is the call's.
-fn whole(op: Op) -> Asks
-    ensures { just op ≡ asks result.change result.next (memory_after result.at) }
-{
-    Asks {
-        change: Change::Nothing,
-        at: call_at::at_step(0, 0, 0, 0, 0, 0),
-        next: Next::Do(op),
+    fn unpack(at: At) -> MemoryAt {
+        let mem = Mem {
+            stop: at.a,
+            len: at.b,
+            left: at.c,
+            size: at.d,
+        };
+        let step = match at.step % 32 {
+            0 => return MemoryAt::Whole,
+            1 => TurnStep::ReadRun,
+            2 => TurnStep::ReadPart,
+            3 => TurnStep::WriteRun,
+            4 => TurnStep::PartRead,
+            _ => TurnStep::PartWritten,
+        };
+        MemoryAt::Turn { step, mem }
     }
 }
 
 // A turn's operation, after a change.
-fn moving(change: Change, step: TurnStep, m: Mem, op: Op) -> Asks
-    ensures turn { keep_some change (op_then op (phase_after (Turn step m))) ≡ asks result.change result.next (memory_after result.at) }
+fn moving(change: Change, step: TurnStep, mem: Mem, op: Op) -> Asks
+    ensures turn { keep_some change (op_then op (phase_after (Turn step mem))) ≡ asks result.change result.next (memory_after result.at) }
     ensures change { result.change ≡ change }
 {
-    let at = pack(step, m);
-    Asks {
-        change: change,
-        at: at,
-        next: Next::Do(op),
-    }
+    changing::<MemoryCall>(change, MemoryAt::Turn { step, mem }, op)
 }
 
 // A turn that moves whole words. To be written, they are loaded first.
+// Stays: `read` a flag, here and below: the definition of a turn has it so, and an enum would be one more type to believe.
 fn move_run(read: bool, m: Mem) -> Asks
     ensures turn { move_run read (addr_of m) (place_of m) m.size (rest read m) ≡ asks result.change result.next (memory_after result.at) }
     ensures change { read ≡ true → result.change ≡ Nothing }
 {
-    let addr = wire_memap::minus(m.stop, m.left);
+    let addr = m.stop.saturating_sub(m.left);
     let n = m.size;
-    let last = wire_memap::minus(n, 1);
+    let last = n.saturating_sub(1);
     if read {
-        let op = Op::ReadWords {
-            addr: addr,
-            n: n,
-            last: last,
-        };
-        return moving(Change::Nothing, TurnStep::ReadRun, m, op);
+        return moving(
+            Change::Nothing,
+            TurnStep::ReadRun,
+            m,
+            Op::ReadWords { addr, n, last },
+        );
     }
-    let load = Change::LoadWords {
-        at: wire_memap::minus(m.len, m.left),
-        n: n,
-    };
-    let op = Op::WriteWords {
-        addr: addr,
-        n: n,
-        last: last,
-    };
-    moving(load, TurnStep::WriteRun, m, op)
+    let at = m.len.saturating_sub(m.left);
+    moving(
+        Change::LoadWords { at, n },
+        TurnStep::WriteRun,
+        m,
+        Op::WriteWords { addr, n, last },
+    )
 }
 
 // A turn that moves a part of a word. To be written too, the word is read first.
@@ -216,7 +158,7 @@ fn move_bytes(read: bool, m: Mem) -> Asks
     ensures turn { move_bytes read (addr_of m) (place_of m) m.size (rest read m) ≡ asks result.change result.next (memory_after result.at) }
     ensures change { read ≡ true → result.change ≡ Nothing }
 {
-    let addr = wire_memap::minus(m.stop, m.left);
+    let addr = m.stop.saturating_sub(m.left);
     let op = Op::ReadWord {
         addr: addr - addr % 4,
     };
@@ -227,23 +169,20 @@ fn move_bytes(read: bool, m: Mem) -> Asks
 }
 
 // The turn with `left` bytes to go. One that reads changes nothing before its operation.
+#[tactic(auto, unfolding(crate::specs::Memory::turns))]
 fn mem_on(read: bool, stop: u32, len: u32, left: u32) -> Asks
     ensures turn { mem_from read stop len left ≡ asks result.change result.next (memory_after result.at) }
     ensures change { read ≡ true → result.change ≡ Nothing }
 {
     if left == 0 {
-        return Asks {
-            change: Change::Nothing,
-            at: call_at::at_step(0, 0, 0, 0, 0, 0),
-            next: Next::End(Outcome::Value(0)),
-        };
+        return ended(Ok(0));
     }
-    let addr = wire_memap::minus(stop, left);
+    let addr = stop.saturating_sub(left);
     let part = Mem {
-        stop: stop,
-        len: len,
-        left: left,
-        size: smaller(4 - addr % 4, left),
+        stop,
+        len,
+        left,
+        size: (4 - addr % 4).min(left),
     };
     if addr % 4 != 0 {
         return move_bytes(read, part);
@@ -252,82 +191,67 @@ fn mem_on(read: bool, stop: u32, len: u32, left: u32) -> Asks
         return move_bytes(read, part);
     }
     let n = run_words(addr, left / 4);
-    move_run(
-        read,
-        Mem {
-            stop: stop,
-            len: len,
-            left: left,
-            size: n,
-        },
-    )
+    move_run(read, Mem { size: n, ..part })
+}
+
+// An operation whose outcome is the call's.
+fn whole(op: Op) -> Asks
+    ensures { just op ≡ asks result.change result.next (memory_after result.at) }
+{
+    doing::<MemoryCall>(MemoryAt::Whole, op)
 }
 
 fn read_words(addr: u32, words: usize) -> Asks
     ensures { in_range (leb 0x100000000 words) (read_words addr words) ≡ asks result.change result.next (memory_after result.at) }
 {
-    if ADDRESSES <= words {
-        return ended(Outcome::Failed(ArmError::Range));
+    match u32::try_from(words) {
+        Ok(n) => whole(Op::ReadWords {
+            addr,
+            n,
+            last: n.saturating_sub(1),
+        }),
+        Err(_) => ended(Err(ArmError::Range)),
     }
-    let n = words as u32;
-    whole(Op::ReadWords {
-        addr: addr,
-        n: n,
-        last: wire_memap::minus(n, 1),
-    })
 }
 
 fn write_words(addr: u32, words: usize) -> Asks
     ensures { in_range (leb 0x100000000 words) (write_words addr words) ≡ asks result.change result.next (memory_after result.at) }
 {
-    if ADDRESSES <= words {
-        return ended(Outcome::Failed(ArmError::Range));
+    match u32::try_from(words) {
+        Ok(0) => ended(Ok(0)),
+        Ok(n) => whole(Op::WriteWords {
+            addr,
+            n,
+            last: n - 1,
+        }),
+        Err(_) => ended(Err(ArmError::Range)),
     }
-    let n = words as u32;
-    if n == 0 {
-        return ended(Outcome::Value(0));
-    }
-    whole(Op::WriteWords {
-        addr: addr,
-        n: n,
-        last: n - 1,
-    })
 }
 
 // read_mem or write_mem of `bytes` bytes.
 fn start_mem(read: bool, addr: u32, bytes: usize) -> Asks
     ensures { mem read addr bytes ≡ asks result.change result.next (memory_after result.at) }
 {
-    if ADDRESSES <= bytes {
-        return ended(Outcome::Failed(ArmError::Range));
+    let Ok(len) = u32::try_from(bytes) else {
+        return ended(Err(ArmError::Range));
+    };
+    match addr.checked_add(len) {
+        Some(stop) => mem_on(read, stop, len, len),
+        None => ended(Err(ArmError::Range)),
     }
-    let stop = (addr as usize) + bytes;
-    if ADDRESSES <= stop {
-        return ended(Outcome::Failed(ArmError::Range));
-    }
-    mem_on(read, stop as u32, bytes as u32, bytes as u32)
 }
 
 // What a call asks for first.
+#[tactic(auto, unfolding(crate::specs::Memory::memory_job))]
 pub fn start(c: MemoryCall, words: usize, bytes: usize) -> Asks
     ensures { memory_job c words bytes ≡ asks result.change result.next (memory_after result.at) }
 {
     match c {
-        MemoryCall::SetApsel(apsel) => Asks {
-            change: Change::Apsel(apsel),
-            at: call_at::at_step(0, 0, 0, 0, 0, 0),
-            next: Next::End(Outcome::Value(0)),
-        },
-        MemoryCall::ApRegRead(addr) => whole(Op::ApRead { addr: addr }),
-        MemoryCall::ApRegWrite(addr, word) => whole(Op::ApWrite {
-            addr: addr,
-            word: word,
-        }),
-        MemoryCall::ReadWord(addr) => whole(Op::ReadWord { addr: addr }),
-        MemoryCall::WriteWord(addr, word) => whole(Op::WriteWord {
-            addr: addr,
-            word: word,
-        }),
+        MemoryCall::SetApsel(apsel) => ended_after(Change::Apsel(apsel), Ok(0)),
+        MemoryCall::ApRegRead(addr) => whole(Op::ApRead { addr }),
+        MemoryCall::ApRegWrite(addr, word) => whole(Op::ApWrite { addr, word }),
+        MemoryCall::ReadWord(addr) => whole(Op::ReadWord { addr }),
+        MemoryCall::WriteWord(addr, word) => whole(Op::WriteWord { addr, word }),
         MemoryCall::ReadWords(addr) => read_words(addr, words),
         MemoryCall::WriteWords(addr) => write_words(addr, words),
         MemoryCall::ReadMem(addr) => start_mem(true, addr, bytes),
@@ -339,13 +263,9 @@ pub fn start(c: MemoryCall, words: usize, bytes: usize) -> Asks
 fn stored(change: Change, stop: u32, len: u32, left: u32) -> Asks
     ensures { keep_some change (mem_from true stop len left) ≡ asks result.change result.next (memory_after result.at) }
 {
-    let turn = mem_on(true, stop, len, left);
-    let at = turn.at;
-    let next = turn.next;
     Asks {
-        change: change,
-        at: at,
-        next: next,
+        change,
+        ..mem_on(true, stop, len, left)
     }
 }
 
@@ -353,7 +273,7 @@ fn stored(change: Change, stop: u32, len: u32, left: u32) -> Asks
 fn run_read(m: Mem) -> Asks
     ensures { goes_on_of (Turn ReadRun m) 0 ≡ asks result.change result.next (memory_after result.at) }
 {
-    let place = wire_memap::minus(m.len, m.left);
+    let place = m.len.saturating_sub(m.left);
     stored(
         Change::StoreWords {
             at: place,
@@ -369,18 +289,18 @@ fn run_read(m: Mem) -> Asks
 fn part_read(m: Mem, word: u32) -> Asks
     ensures { goes_on_of (Turn ReadPart m) word ≡ asks result.change result.next (memory_after result.at) }
 {
-    let skip = wire_memap::minus(m.stop, m.left) % 4;
-    let place = wire_memap::minus(m.len, m.left);
+    let skip = m.stop.saturating_sub(m.left) % 4;
+    let place = m.len.saturating_sub(m.left);
     stored(
         Change::StorePart {
             at: place,
-            skip: skip,
+            skip,
             count: m.size,
-            word: word,
+            word,
         },
         m.stop,
         m.len,
-        wire_memap::minus(m.left, m.size),
+        m.left.saturating_sub(m.size),
     )
 }
 
@@ -388,14 +308,14 @@ fn part_read(m: Mem, word: u32) -> Asks
 fn patched(m: Mem, word: u32) -> Asks
     ensures { goes_on_of (Turn PartRead m) word ≡ asks result.change result.next (memory_after result.at) }
 {
-    let addr = wire_memap::minus(m.stop, m.left);
+    let addr = m.stop.saturating_sub(m.left);
     let skip = addr % 4;
-    let place = wire_memap::minus(m.len, m.left);
+    let place = m.len.saturating_sub(m.left);
     let patch = Change::Patch {
         at: place,
-        skip: skip,
+        skip,
         count: m.size,
-        word: word,
+        word,
     };
     let op = Op::WriteWords {
         addr: addr - skip,
@@ -414,7 +334,27 @@ fn turn_after(step: TurnStep, m: Mem, v: u32) -> Asks
         TurnStep::ReadPart => part_read(m, v),
         TurnStep::WriteRun => mem_on(false, m.stop, m.len, minus_words(m.left, m.size)),
         TurnStep::PartRead => patched(m, v),
-        TurnStep::PartWritten => mem_on(false, m.stop, m.len, wire_memap::minus(m.left, m.size)),
+        TurnStep::PartWritten => mem_on(false, m.stop, m.len, m.left.saturating_sub(m.size)),
+    }
+}
+
+impl Group for MemoryCall {
+    type Phase = MemoryAt;
+
+    ghost after = { phase_after };
+}
+
+impl GoesOn for MemoryCall {
+    fn value_after(p: MemoryAt, v: u32) -> Asks {
+        match p {
+            MemoryAt::Whole => ended(Ok(v)),
+            MemoryAt::Turn { step, mem } => turn_after(step, mem, v),
+        }
+    }
+
+    // An error ends the call.
+    fn failed_after(_p: MemoryAt, e: ArmError) -> Asks {
+        ended(Err(e))
     }
 }
 
@@ -422,14 +362,5 @@ fn turn_after(step: TurnStep, m: Mem, v: u32) -> Asks
 pub fn call_after(at: At, o: Outcome) -> Asks
     ensures { memory_after at o ≡ asks result.change result.next (memory_after result.at) }
 {
-    match o {
-        Outcome::Failed(e) => ended(Outcome::Failed(e)),
-        Outcome::Value(v) => {
-            let p = unpack(at);
-            match p {
-                MemoryAt::Whole => ended(Outcome::Value(v)),
-                MemoryAt::Turn { step, mem } => turn_after(step, mem, v),
-            }
-        }
-    }
+    call::call_after::<MemoryCall>(at, o)
 }

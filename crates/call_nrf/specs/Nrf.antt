@@ -1,10 +1,9 @@
 -- Copyright 2026 Kenta Ida. SPDX-License-Identifier: Apache-2.0. Ported from arm-debug/src/lib.rs of ciniml/rust-dap.
 -- Nordic chips: protection, mass erase and flash (000: nrf52_approtect_status to nrf54_program).
 -- A transfer that fails ends the call at its place, and APSEL stays as it was set.
-use Rattle.std.specs.Prelude.{ℕ, zero, suc, ◌+◌, ◌-◌, ◌*◌, ◌%◌, Bool, true, false, cond, eqb, leb}
+use Rattle.std.specs.Prelude.{ℕ, zero, suc, ◌+◌, ◌-◌, ◌*◌, ◌%◌, Bool, true, false, cond, eqb, leb, Ok, Err}
 use Rattle.wire.specs.declared.ArmError.TheVariants as E
-use Rattle.wire.specs.declared.Outcome.{Outcome}
-use Rattle.wire.specs.declared.Outcome.TheVariants.{Value, Failed}
+use Rattle.wire.specs.Outcomes.{Outcome}
 use Rattle.wire_memap.specs.Words.{tar_run}
 use Rattle.wire_memap.specs.declared.Op.TheVariants as O
 use Rattle.call.specs.Job.{Job, ends, ◌>>=◌, ◌>>◌, return, fail, just, keeping, ap_read, ap_write, read_word_of, write_word}
@@ -35,7 +34,7 @@ nrf52_approtect_status = do
 
 -- whether the erase came to its end
 abbrev pub outcome : Bool → Outcome
-outcome erased = cond erased (Value 0) (Failed E.CoreTimeout)
+outcome erased = cond erased (Ok 0) (Err E.CoreTimeout)
 
 abbrev pub soft_reset : Bool → Job
 soft_reset erased = do

@@ -17,7 +17,7 @@ ghost use Rattle.call_places.specs.declared.NrfAt.TheVariants as P;
 mod nrf52;
 mod nrf54;
 
-use call::{Asks, Change, Next};
+use call::{Asks, Change, GoesOn, Group, changing, doing, ended, ended_after};
 use call_at::At;
 use call_places::{Chip, Flash, FlashStep, NrfAt, Program};
 use wire::{ArmError, Outcome};
@@ -35,105 +35,39 @@ pub enum NrfCall {
     Nrf54Program { addr: u32, polls: u32 },
 }
 
-// As many addresses as a target has: 2^32.
-const ADDRESSES: usize = 0x100000000;
-
 // The address n words below `stop`.
 fn words_below(stop: u32, n: u32) -> u32
     ensures { result ≡ stop - 4 * n }
 {
-    if stop / 4 < n {
-        return 0;
-    }
-    stop - 4 * n
+    stop.saturating_sub(n.saturating_mul(4))
 }
 
 // As many words as fit below the next multiple of 1024, up to which every TAR goes on.
 fn tar_run(addr: u32, words: u32) -> u32
     ensures { result ≡ tar_run addr words }
 {
-    let most = (1024 - addr % 1024) / 4;
-    if most <= words {
-        return most;
-    }
-    words
-}
-
-// The call ends.
-fn ended(o: Outcome) -> Asks
-    ensures { ends o ≡ asks result.change result.next (nrf_after result.at) }
-{
-    let change = Change::Nothing;
-    Asks {
-        change: change,
-        at: call_at::at_step(0, 0, 0, 0, 0, 0),
-        next: Next::End(o),
-    }
-}
-
-// The operation `op`, and nothing is changed before it.
-fn doing(at: NrfAt, op: Op) -> Asks
-    ensures { op_then op (phase_after at) ≡ asks result.change result.next (nrf_after result.at) }
-{
-    Asks {
-        change: Change::Nothing,
-        at: call_places::pack_nrf(at),
-        next: Next::Do(op),
-    }
+    ((1024 - addr % 1024) / 4).min(words)
 }
 
 // The operation `op`, on the access port `ap`.
 fn selecting(ap: u8, at: NrfAt, op: Op) -> Asks
     ensures { on_port ap (op_then op (phase_after at)) ≡ asks result.change result.next (nrf_after result.at) }
 {
-    Asks {
-        change: Change::Apsel(ap),
-        at: call_places::pack_nrf(at),
-        next: Next::Do(op),
-    }
+    changing::<NrfCall>(Change::Apsel(ap), at, op)
 }
 
 // The call ends, and the memory's access port is selected again.
 fn leaving(o: Outcome) -> Asks
     ensures { leaves o ≡ asks result.change result.next (nrf_after result.at) }
 {
-    Asks {
-        change: Change::Apsel(0),
-        at: call_at::at_step(0, 0, 0, 0, 0, 0),
-        next: Next::End(o),
-    }
-}
-
-// The nRF52's CTRL-AP is identified before its status is read.
-fn protection_52() -> Asks
-    ensures { nrf52_approtect_status ≡ asks result.change result.next (nrf_after result.at) }
-{
-    selecting(
-        nrf52::CTRL_AP,
-        NrfAt::Idr,
-        Op::ApRead {
-            addr: nrf52::CTRLAP_IDR,
-        },
-    )
-}
-
-fn protection_54() -> Asks
-    ensures { nrf54_approtect_status ≡ asks result.change result.next (nrf_after result.at) }
-{
-    selecting(
-        nrf54::CTRL_AP,
-        NrfAt::Status(false),
-        Op::ApRead {
-            addr: nrf52::CTRLAP_APPROTECTSTATUS,
-        },
-    )
+    ended_after(Change::Apsel(0), o)
 }
 
 // APPROTECTSTATUS is read, whether or not CTRL-AP is known.
 fn status_on(known: bool) -> Asks
     ensures { read_status known ≡ asks result.change result.next (nrf_after result.at) }
 {
-    doing(
+    doing::<NrfCall>(
         NrfAt::Status(known),
         Op::ApRead {
             addr: nrf52::CTRLAP_APPROTECTSTATUS,
@@ -145,10 +79,8 @@ fn status_on(known: bool) -> Asks
 fn status_by(known: bool, status: u32) -> Asks
     ensures { goes_on_of (P.Status known) status ≡ asks result.change result.next (nrf_after result.at) }
 {
-    if known {
-        return leaving(Outcome::Value(status % 2 + 2));
-    }
-    leaving(Outcome::Value(status % 2))
+    let open = status % 2;
+    leaving(Ok(if known { open + 2 } else { open }))
 }
 
 // The mass erase by the CTRL-AP at `ap`.
@@ -169,7 +101,7 @@ fn erase_all(ap: u8, polls: u32) -> Asks
 fn soft_reset(erased: bool) -> Asks
     ensures { soft_reset erased ≡ asks result.change result.next (nrf_after result.at) }
 {
-    doing(
+    doing::<NrfCall>(
         NrfAt::Reset(erased),
         Op::ApWrite {
             addr: nrf52::CTRLAP_RESET,
@@ -179,13 +111,14 @@ fn soft_reset(erased: bool) -> Asks
 }
 
 // `left` more reads of ERASEALLSTATUS.
+#[tactic(auto, using(crate::specs::Laws::After::erased_more), unfolding(crate::specs::Nrf::poll_erased))]
 fn erased_on(left: u32) -> Asks
     ensures { poll_erased left ≡ asks result.change result.next (nrf_after result.at) }
 {
     if left == 0 {
         return soft_reset(false);
     }
-    doing(
+    doing::<NrfCall>(
         NrfAt::Erasing(left - 1),
         Op::ApRead {
             addr: nrf52::CTRLAP_ERASEALLSTATUS,
@@ -207,7 +140,7 @@ fn erased_by(left: u32, status: u32) -> Asks
 fn release_on(erased: bool) -> Asks
     ensures { releasing erased ≡ asks result.change result.next (nrf_after result.at) }
 {
-    doing(
+    doing::<NrfCall>(
         NrfAt::Release(erased),
         Op::ApWrite {
             addr: nrf52::CTRLAP_RESET,
@@ -220,10 +153,11 @@ fn release_on(erased: bool) -> Asks
 fn release_by(erased: bool) -> Asks
     ensures { released erased ≡ asks result.change result.next (nrf_after result.at) }
 {
-    if erased {
-        return leaving(Outcome::Value(0));
-    }
-    leaving(Outcome::Failed(ArmError::CoreTimeout))
+    leaving(if erased {
+        Ok(0)
+    } else {
+        Err(ArmError::CoreTimeout)
+    })
 }
 
 // The register that lets a chip's flash be written.
@@ -251,10 +185,10 @@ fn close(chip: Chip) -> Asks
     ensures { closing chip ≡ asks result.change result.next (nrf_after result.at) }
 {
     let addr = config_of(chip);
-    doing(
+    doing::<NrfCall>(
         NrfAt::Last,
         Op::WriteWord {
-            addr: addr,
+            addr,
             word: nrf52::NVMC_CONFIG_REN,
         },
     )
@@ -269,10 +203,10 @@ fn finish(chip: Chip, polls: u32) -> Asks
         Chip::Nrf54 => {
             let at = NrfAt::Flash {
                 step: FlashStep::Settle(polls),
-                chip: chip,
+                chip,
                 then: Flash::Close,
             };
-            doing(
+            doing::<NrfCall>(
                 at,
                 Op::WriteWord {
                     addr: nrf54::RRAMC_COMMIT,
@@ -287,27 +221,15 @@ fn finish(chip: Chip, polls: u32) -> Asks
 fn settled(chip: Chip, then: Flash, polls: u32, write: Op) -> Asks
     ensures { writes chip write polls then ≡ asks result.change result.next (nrf_after result.at) }
 {
-    match chip {
-        Chip::Nrf52 => doing(
-            NrfAt::Flash {
-                step: FlashStep::Settle(polls),
-                chip: Chip::Nrf52,
-                then: then,
-            },
-            write,
-        ),
-        Chip::Nrf54 => doing(
-            NrfAt::Flash {
-                step: FlashStep::Next,
-                chip: Chip::Nrf54,
-                then: then,
-            },
-            write,
-        ),
-    }
+    let step = match chip {
+        Chip::Nrf52 => FlashStep::Settle(polls),
+        Chip::Nrf54 => FlashStep::Next,
+    };
+    doing::<NrfCall>(NrfAt::Flash { step, chip, then }, write)
 }
 
 // The next run of words.
+#[tactic(auto, unfolding(crate::specs::Nrf::runs))]
 fn words_on(chip: Chip, p: Program) -> Asks
     ensures { programming chip p ≡ asks result.change result.next (nrf_after result.at) }
 {
@@ -316,21 +238,19 @@ fn words_on(chip: Chip, p: Program) -> Asks
     }
     let addr = words_below(p.stop, p.left);
     let n = tar_run(addr, p.left);
-    let more = wire_memap::minus(n, 1);
-    let place = wire_memap::minus(p.len, p.left);
+    let more = n.saturating_sub(1);
+    let place = p.len.saturating_sub(p.left);
     let then = Flash::Words(Program {
-        stop: p.stop,
-        len: p.len,
         left: p.left - 1 - more,
-        polls: p.polls,
+        ..p
     });
     settled(
         chip,
         then,
         p.polls,
         Op::WriteWords {
-            addr: addr,
-            n: n,
+            addr,
+            n,
             last: place + more,
         },
     )
@@ -344,10 +264,10 @@ fn flash_on(chip: Chip, then: Flash) -> Asks
         Flash::Page { page, polls } => {
             let at = NrfAt::Flash {
                 step: FlashStep::Settle(polls),
-                chip: chip,
+                chip,
                 then: Flash::Close,
             };
-            doing(
+            doing::<NrfCall>(
                 at,
                 Op::WriteWord {
                     addr: nrf52::NVMC_ERASEPAGE,
@@ -361,20 +281,21 @@ fn flash_on(chip: Chip, then: Flash) -> Asks
 }
 
 // `left` more reads of READY.
+#[tactic(auto, using(crate::specs::Laws::After::waiting_more), unfolding(crate::specs::Nrf::wait_ready))]
 fn wait_on(chip: Chip, then: Flash, left: u32) -> Asks
     ensures { waiting chip then left ≡ asks result.change result.next (nrf_after result.at) }
 {
     if left == 0 {
-        return ended(Outcome::Failed(ArmError::CoreTimeout));
+        return ended(Err(ArmError::CoreTimeout));
     }
     let addr = ready_of(chip);
-    doing(
+    doing::<NrfCall>(
         NrfAt::Flash {
             step: FlashStep::Wait(left - 1),
-            chip: chip,
-            then: then,
+            chip,
+            then,
         },
-        Op::ReadWord { addr: addr },
+        Op::ReadWord { addr },
     )
 }
 
@@ -388,32 +309,16 @@ fn ready_by(chip: Chip, then: Flash, left: u32, v: u32) -> Asks
     wait_on(chip, then, left)
 }
 
-// The flash is opened for writing.
+// The flash is opened for writing, by 1 on both chips.
+#[tactic(auto, using(crate::specs::Laws::After::enabling_is))]
 fn enable(chip: Chip, p: Program) -> Asks
     ensures { enabling chip p ≡ asks result.change result.next (nrf_after result.at) }
 {
-    let polls = p.polls;
-    let then = Flash::Words(p);
-    match chip {
-        Chip::Nrf52 => settled(
-            chip,
-            then,
-            polls,
-            Op::WriteWord {
-                addr: nrf52::NVMC_CONFIG,
-                word: nrf52::NVMC_CONFIG_WEN,
-            },
-        ),
-        Chip::Nrf54 => settled(
-            chip,
-            then,
-            polls,
-            Op::WriteWord {
-                addr: nrf54::RRAMC_CONFIG,
-                word: nrf54::RRAMC_CONFIG_WEN,
-            },
-        ),
-    }
+    let open = Op::WriteWord {
+        addr: config_of(chip),
+        word: nrf52::NVMC_CONFIG_WEN,
+    };
+    settled(chip, Flash::Words(p), p.polls, open)
 }
 
 // A program call: refused, over at once, or begun.
@@ -422,25 +327,25 @@ fn program_on(chip: Chip, addr: u32, words: usize, polls: u32) -> Asks
         ≡ asks result.change result.next (nrf_after result.at) }
 {
     if words == 0 {
-        return ended(Outcome::Value(0));
+        return ended(Ok(0));
     }
     if addr % 4 != 0 {
-        return ended(Outcome::Failed(ArmError::Align));
+        return ended(Err(ArmError::Align));
     }
-    if ADDRESSES <= words {
-        return ended(Outcome::Failed(ArmError::Range));
-    }
-    let stop = (addr as usize) + 4 * words;
-    if ADDRESSES <= stop {
-        return ended(Outcome::Failed(ArmError::Range));
-    }
+    let Ok(len) = u32::try_from(words) else {
+        return ended(Err(ArmError::Range));
+    };
+    let stop = len.checked_mul(4).and_then(|bytes| addr.checked_add(bytes));
+    let Some(stop) = stop else {
+        return ended(Err(ArmError::Range));
+    };
     enable(
         chip,
         Program {
-            stop: stop as u32,
-            len: words as u32,
-            left: words as u32,
-            polls: polls,
+            stop,
+            len,
+            left: len,
+            polls,
         },
     )
 }
@@ -451,14 +356,14 @@ fn erase_page(addr: u32, polls: u32) -> Asks
 {
     let then = Flash::Page {
         page: addr - addr % nrf52::FLASH_PAGE,
-        polls: polls,
+        polls,
     };
     let at = NrfAt::Flash {
         step: FlashStep::Settle(polls),
         chip: Chip::Nrf52,
-        then: then,
+        then,
     };
-    doing(
+    doing::<NrfCall>(
         at,
         Op::WriteWord {
             addr: nrf52::NVMC_CONFIG,
@@ -468,15 +373,29 @@ fn erase_page(addr: u32, polls: u32) -> Asks
 }
 
 // What a call asks for first, with as many words as the caller lends.
+#[tactic(auto, unfolding(crate::specs::Nrf::nrf_job))]
 pub fn start(c: NrfCall, words: usize) -> Asks
     ensures { nrf_job c words ≡ asks result.change result.next (nrf_after result.at) }
 {
     match c {
-        NrfCall::Nrf52ApprotectStatus => protection_52(),
+        // CTRL-AP is identified before its status is read.
+        NrfCall::Nrf52ApprotectStatus => selecting(
+            nrf52::CTRL_AP,
+            NrfAt::Idr,
+            Op::ApRead {
+                addr: nrf52::CTRLAP_IDR,
+            },
+        ),
         NrfCall::Nrf52EraseAll(polls) => erase_all(nrf52::CTRL_AP, polls),
         NrfCall::Nrf52ErasePage { addr, polls } => erase_page(addr, polls),
         NrfCall::Nrf52Program { addr, polls } => program_on(Chip::Nrf52, addr, words, polls),
-        NrfCall::Nrf54ApprotectStatus => protection_54(),
+        NrfCall::Nrf54ApprotectStatus => selecting(
+            nrf54::CTRL_AP,
+            NrfAt::Status(false),
+            Op::ApRead {
+                addr: nrf52::CTRLAP_APPROTECTSTATUS,
+            },
+        ),
         NrfCall::Nrf54EraseAll(polls) => erase_all(nrf54::CTRL_AP, polls),
         NrfCall::Nrf54Program { addr, polls } => program_on(Chip::Nrf54, addr, words, polls),
     }
@@ -493,28 +412,35 @@ fn flash_after(step: FlashStep, chip: Chip, then: Flash, v: u32) -> Asks
     }
 }
 
-// What follows an operation that gave the value `v`.
-fn value_after(p: NrfAt, v: u32) -> Asks
-    ensures { goes_on_of p v ≡ asks result.change result.next (nrf_after result.at) }
-{
-    match p {
-        NrfAt::Idr => status_on(v == nrf52::CTRLAP_IDR_VALUE),
-        NrfAt::Status(known) => status_by(known, v),
-        NrfAt::EraseAll(polls) => erased_on(polls),
-        NrfAt::Erasing(left) => erased_by(left, v),
-        NrfAt::Reset(erased) => release_on(erased),
-        NrfAt::Release(erased) => release_by(erased),
-        NrfAt::Flash { step, chip, then } => flash_after(step, chip, then, v),
-        NrfAt::Last => ended(Outcome::Value(0)),
+impl Group for NrfCall {
+    type Phase = NrfAt;
+
+    ghost after = { phase_after };
+}
+
+impl GoesOn for NrfCall {
+    fn value_after(p: NrfAt, v: u32) -> Asks {
+        match p {
+            NrfAt::Idr => status_on(v == nrf52::CTRLAP_IDR_VALUE),
+            NrfAt::Status(known) => status_by(known, v),
+            NrfAt::EraseAll(polls) => erased_on(polls),
+            NrfAt::Erasing(left) => erased_by(left, v),
+            NrfAt::Reset(erased) => release_on(erased),
+            NrfAt::Release(erased) => release_by(erased),
+            NrfAt::Flash { step, chip, then } => flash_after(step, chip, then, v),
+            NrfAt::Last => ended(Ok(0)),
+        }
+    }
+
+    // An error ends the call.
+    fn failed_after(_p: NrfAt, e: ArmError) -> Asks {
+        ended(Err(e))
     }
 }
 
-// What a call in flight asks for, now that its operation has ended: an error ends the call.
+// What a call in flight asks for, now that its operation has ended.
 pub fn call_after(at: At, o: Outcome) -> Asks
     ensures { nrf_after at o ≡ asks result.change result.next (nrf_after result.at) }
 {
-    match o {
-        Outcome::Value(v) => value_after(call_places::unpack_nrf(at), v),
-        Outcome::Failed(e) => ended(Outcome::Failed(e)),
-    }
+    call::call_after::<NrfCall>(at, o)
 }

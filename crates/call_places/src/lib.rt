@@ -9,8 +9,8 @@ ghost use Rattle.call_places.specs.Laws.Core.{access_of, find_of, run_of, plan_o
 ghost use Rattle.call_places.specs.Laws.Fpb.{fpb_at_of};
 ghost use Rattle.call_places.specs.Laws.Nrf.{chip_of, step_of, flash_of, nrf_at_of};
 
-use call_at::At;
-use wire::Outcome;
+use call_at::{At, Packed, at_step};
+use wire::{Outcome, Told};
 
 // What DHCSR is read for: the core's halt, or a register that is being read or written.
 #[derive(Clone, Copy)]
@@ -101,18 +101,11 @@ pub enum CoreAt {
     },
 }
 
-// An access or an outcome in numbers: which one it is, and the value that it has.
+// Which of several things stands here, and the value that it has.
 #[derive(Clone, Copy)]
 struct Numbers {
     kind: u32,
     n: u32,
-}
-
-// Half a word as a word, which is that half again.
-fn wide_half(x: u16) -> u32
-    ensures { result % 65536 ≡ x }
-{
-    x as u32
 }
 
 // A number and a flag in one.
@@ -120,104 +113,102 @@ fn with_flag(kind: u32, flag: bool) -> u32
     requires { kind < 16 }
     ensures { (result / 2 ≡ kind) × (eqb (result % 2) 1 ≡ flag) }
 {
-    if flag {
-        return 2 * kind + 1;
-    }
-    2 * kind
+    2 * kind + u32::from(flag)
 }
 
-// Which operation of an access is in flight, in numbers.
-fn access_numbers(at: AccessAt) -> Numbers
-    ensures { (access_of result.kind result.n ≡ at) × (result.kind < 16) }
-{
-    match at {
-        AccessAt::Whole => Numbers { kind: 0, n: 0 },
-        AccessAt::Halted => Numbers { kind: 1, n: 0 },
-        AccessAt::Asked(w) => match w {
-            Wait::Halt => Numbers { kind: 2, n: 0 },
-            Wait::Read => Numbers { kind: 3, n: 0 },
-            Wait::Write => Numbers { kind: 4, n: 0 },
-        },
-        AccessAt::Poll { wait, left } => match wait {
-            Wait::Halt => Numbers { kind: 5, n: left },
-            Wait::Read => Numbers { kind: 6, n: left },
-            Wait::Write => Numbers { kind: 7, n: left },
-        },
-        AccessAt::Data(reg) => Numbers {
-            kind: 8,
-            n: wire::wide(reg),
-        },
-    }
-}
+// Stays: numbers for phases and for what stands in them, here and below: the words of a session hold them, and any words are some phase.
+impl Packed<Numbers> for AccessAt {
+    ghost told = { λ x. access_of x.kind x.n };
 
-fn access_of(kind: u32, n: u32) -> AccessAt
-    ensures { result ≡ access_of kind n }
-{
-    match kind {
-        0 => AccessAt::Whole,
-        1 => AccessAt::Halted,
-        2 => AccessAt::Asked(Wait::Halt),
-        3 => AccessAt::Asked(Wait::Read),
-        4 => AccessAt::Asked(Wait::Write),
-        5 => AccessAt::Poll {
-            wait: Wait::Halt,
-            left: n,
-        },
-        6 => AccessAt::Poll {
-            wait: Wait::Read,
-            left: n,
-        },
-        7 => AccessAt::Poll {
-            wait: Wait::Write,
-            left: n,
-        },
-        _ => AccessAt::Data((n % 256) as u8),
+    fn pack(self) -> Numbers
+        ensures { (access_of result.kind result.n ≡ self) × (result.kind < 16) }
+    {
+        match self {
+            AccessAt::Whole => Numbers { kind: 0, n: 0 },
+            AccessAt::Halted => Numbers { kind: 1, n: 0 },
+            AccessAt::Asked(Wait::Halt) => Numbers { kind: 2, n: 0 },
+            AccessAt::Asked(Wait::Read) => Numbers { kind: 3, n: 0 },
+            AccessAt::Asked(Wait::Write) => Numbers { kind: 4, n: 0 },
+            AccessAt::Poll { wait, left: n } => match wait {
+                Wait::Halt => Numbers { kind: 5, n },
+                Wait::Read => Numbers { kind: 6, n },
+                Wait::Write => Numbers { kind: 7, n },
+            },
+            AccessAt::Data(reg) => Numbers {
+                kind: 8,
+                n: reg.pack(),
+            },
+        }
+    }
+
+    fn unpack(x: Numbers) -> AccessAt {
+        let left = x.n;
+        match x.kind {
+            0 => AccessAt::Whole,
+            1 => AccessAt::Halted,
+            2 => AccessAt::Asked(Wait::Halt),
+            3 => AccessAt::Asked(Wait::Read),
+            4 => AccessAt::Asked(Wait::Write),
+            5 => AccessAt::Poll {
+                wait: Wait::Halt,
+                left,
+            },
+            6 => AccessAt::Poll {
+                wait: Wait::Read,
+                left,
+            },
+            7 => AccessAt::Poll {
+                wait: Wait::Write,
+                left,
+            },
+            _ => AccessAt::Data(u8::unpack(left)),
+        }
     }
 }
 
-// Which read of a search is in flight, as a number.
-fn find_number(step: FindStep) -> u32
-    ensures { find_of result ≡ step }
-{
-    match step {
-        FindStep::Table => 0,
-        FindStep::Entry => 1,
-        FindStep::Low => 2,
-        FindStep::High => 3,
+impl Packed<u32> for FindStep {
+    ghost told = { λ n. find_of n };
+
+    fn pack(self) -> u32 {
+        match self {
+            FindStep::Table => 0,
+            FindStep::Entry => 1,
+            FindStep::Low => 2,
+            FindStep::High => 3,
+        }
+    }
+
+    fn unpack(n: u32) -> FindStep {
+        match n {
+            0 => FindStep::Table,
+            1 => FindStep::Entry,
+            2 => FindStep::Low,
+            _ => FindStep::High,
+        }
     }
 }
 
-fn find_of(n: u32) -> FindStep
-    ensures { result ≡ find_of n }
-{
-    match n {
-        0 => FindStep::Table,
-        1 => FindStep::Entry,
-        2 => FindStep::Low,
-        _ => FindStep::High,
-    }
-}
+impl Packed<u32> for RunStep {
+    ghost told = { λ n. run_of n };
 
-// Which operation of a function's first half is in flight, as a number.
-fn run_number(step: RunStep) -> u32
-    ensures { (run_of result ≡ step) × (result < 16) }
-{
-    match step {
-        RunStep::Planted => 0,
-        RunStep::Masked => 1,
-        RunStep::Released => 2,
-        RunStep::Look => 3,
+    fn pack(self) -> u32
+        ensures { (run_of result ≡ self) × (result < 16) }
+    {
+        match self {
+            RunStep::Planted => 0,
+            RunStep::Masked => 1,
+            RunStep::Released => 2,
+            RunStep::Look => 3,
+        }
     }
-}
 
-fn run_of(n: u32) -> RunStep
-    ensures { result ≡ run_of n }
-{
-    match n {
-        0 => RunStep::Planted,
-        1 => RunStep::Masked,
-        2 => RunStep::Released,
-        _ => RunStep::Look,
+    fn unpack(n: u32) -> RunStep {
+        match n {
+            0 => RunStep::Planted,
+            1 => RunStep::Masked,
+            2 => RunStep::Released,
+            _ => RunStep::Look,
+        }
     }
 }
 
@@ -225,10 +216,10 @@ fn run_of(n: u32) -> RunStep
 fn pack_access(at: AccessAt, then: Then) -> At
     ensures { core_at_of result ≡ Access at then }
 {
-    let x = access_numbers(at);
+    let x = at.pack();
     match then {
-        Then::End => call_at::at_step(0, x.n, 0, 0, 0, with_flag(x.kind, false)),
-        Then::Save { left, plan } => call_at::at_step(
+        Then::End => at_step(0, x.n, 0, 0, 0, with_flag(x.kind, false)),
+        Then::Save { left, plan } => at_step(
             8,
             x.n,
             left,
@@ -236,7 +227,7 @@ fn pack_access(at: AccessAt, then: Then) -> At
             plan.polls,
             with_flag(x.kind, plan.finish),
         ),
-        Then::Set { left, plan } => call_at::at_step(
+        Then::Set { left, plan } => at_step(
             16,
             x.n,
             left,
@@ -244,15 +235,8 @@ fn pack_access(at: AccessAt, then: Then) -> At
             plan.polls,
             with_flag(x.kind, plan.finish),
         ),
-        Then::Result => call_at::at_step(24, x.n, 0, 0, 0, with_flag(x.kind, false)),
-        Then::Restore { left, value } => call_at::at_step(
-            32,
-            x.n,
-            left,
-            value,
-            0,
-            with_flag(x.kind, false),
-        ),
+        Then::Result => at_step(24, x.n, 0, 0, 0, with_flag(x.kind, false)),
+        Then::Restore { left, value } => at_step(32, x.n, left, value, 0, with_flag(x.kind, false)),
     }
 }
 
@@ -262,26 +246,26 @@ pub fn pack_core(p: CoreAt) -> At
 {
     match p {
         CoreAt::Access { at, then } => pack_access(at, then),
-        CoreAt::Find { step, low, search } => call_at::at_step(
+        CoreAt::Find { step, low, search } => at_step(
             1,
             low,
             search.want,
-            wide_half(search.table),
-            wide_half(search.left),
-            find_number(step),
+            search.table.pack(),
+            search.left.pack(),
+            step.pack(),
         ),
-        CoreAt::Run { step, left, plan } => call_at::at_step(
+        CoreAt::Run { step, left, plan } => at_step(
             2,
             left,
             0,
             plan.trampoline,
             plan.polls,
-            with_flag(run_number(step), plan.finish),
+            with_flag(step.pack(), plan.finish),
         ),
-        CoreAt::Wait(left) => call_at::at_step(3, left, 0, 0, 0, 0),
+        CoreAt::Wait(left) => at_step(3, left, 0, 0, 0, 0),
         CoreAt::Over { unmasked, waited } => {
-            let w = wire::outcome_told(waited);
-            call_at::at_step(4, w.value, w.number, 0, 0, call_at::flag(unmasked))
+            let w = Told::from(waited);
+            at_step(4, w.value, w.number, 0, 0, unmasked.pack())
         }
     }
 }
@@ -291,7 +275,7 @@ fn plan_of(at: At) -> Plan
 {
     Plan {
         trampoline: at.c,
-        finish: at.e % 2 == 1,
+        finish: bool::unpack(at.e % 2),
         polls: at.d,
     }
 }
@@ -326,36 +310,47 @@ pub fn unpack_core(at: At) -> CoreAt
     let n = at.step % 8;
     match n {
         0 => CoreAt::Access {
-            at: access_of(at.e / 2, at.a),
+            at: AccessAt::unpack(Numbers {
+                kind: at.e / 2,
+                n: at.a,
+            }),
             then: then_of(at),
         },
         1 => CoreAt::Find {
-            step: find_of(at.e),
+            step: FindStep::unpack(at.e),
             low: at.a,
             search: Search {
                 want: at.b,
-                table: (at.c % 65536) as u16,
-                left: (at.d % 65536) as u16,
+                table: u16::unpack(at.c),
+                left: u16::unpack(at.d),
             },
         },
         2 => CoreAt::Run {
-            step: run_of(at.e / 2),
+            step: RunStep::unpack(at.e / 2),
             left: at.a,
             plan: plan_of(at),
         },
         3 => CoreAt::Wait(at.a),
         _ => CoreAt::Over {
-            unmasked: at.e == 1,
-            waited: wire::outcome_at(at.b, at.a),
+            unmasked: bool::unpack(at.e),
+            waited: Outcome::from(Told {
+                number: at.b,
+                value: at.a,
+            }),
         },
     }
 }
 
-// The first free comparator that was found.
-#[derive(Clone, Copy)]
-pub enum Free {
-    Nowhere,
-    At(u8),
+impl Packed<At> for CoreAt {
+    ghost told = { λ at. core_at_of at };
+
+    fn pack(self) -> At {
+        pack_core(self)
+    }
+
+    fn unpack(at: At) -> CoreAt {
+        unpack_core(at)
+    }
 }
 
 // Which operation of a call is in flight. `left` of `n` comparators are still to come, the one in flight among them.
@@ -371,7 +366,7 @@ pub enum FpbAt {
         value: u32,
         n: u8,
         left: u8,
-        free: Free,
+        free: Option<u8>,
     },
     Revision {
         clears: bool,
@@ -391,14 +386,12 @@ pub enum FpbAt {
 }
 
 // A search for a comparator, in numbers.
-fn pack_seek(value: u32, n: u8, left: u8, free: Free) -> At
+fn pack_seek(value: u32, n: u8, left: u8, free: Option<u8>) -> At
     ensures { fpb_at_of result ≡ Seek value n left free }
 {
-    let n = wire::wide(n);
-    let left = wire::wide(left);
     match free {
-        Free::Nowhere => call_at::at_step(2, value, n, left, 0, 0),
-        Free::At(i) => call_at::at_step(3, value, n, left, wire::wide(i), 0),
+        None => at_step(2, value, n.pack(), left.pack(), 0, 0),
+        Some(i) => at_step(3, value, n.pack(), left.pack(), i.pack(), 0),
     }
 }
 
@@ -407,44 +400,23 @@ pub fn pack_fpb(p: FpbAt) -> At
     ensures { fpb_at_of result ≡ p }
 {
     match p {
-        FpbAt::SetCtrl(addr) => call_at::at_step(0, addr, 0, 0, 0, 0),
-        FpbAt::Enable { value, n } => call_at::at_step(1, value, wire::wide(n), 0, 0, 0),
+        FpbAt::SetCtrl(addr) => at_step(0, addr, 0, 0, 0, 0),
+        FpbAt::Enable { value, n } => at_step(1, value, n.pack(), 0, 0, 0),
         FpbAt::Seek {
             value,
             n,
             left,
             free,
         } => pack_seek(value, n, left, free),
-        FpbAt::Revision { clears, addr } => call_at::at_step(
-            4,
-            addr,
-            0,
-            0,
-            call_at::flag(clears),
-            0,
-        ),
-        FpbAt::Count { clears, value } => call_at::at_step(
-            5,
-            value,
-            0,
-            0,
-            call_at::flag(clears),
-            0,
-        ),
+        FpbAt::Revision { clears, addr } => at_step(4, addr, 0, 0, clears.pack(), 0),
+        FpbAt::Count { clears, value } => at_step(5, value, 0, 0, clears.pack(), 0),
         FpbAt::Find {
             clears,
             value,
             n,
             left,
-        } => call_at::at_step(
-            6,
-            value,
-            wire::wide(n),
-            wire::wide(left),
-            call_at::flag(clears),
-            0,
-        ),
-        FpbAt::Write => call_at::at_step(7, 0, 0, 0, 0, 0),
+        } => at_step(6, value, n.pack(), left.pack(), clears.pack(), 0),
+        FpbAt::Write => at_step(7, 0, 0, 0, 0, 0),
     }
 }
 
@@ -453,41 +425,49 @@ pub fn unpack_fpb(at: At) -> FpbAt
     ensures { result ≡ fpb_at_of at }
 {
     let value = at.a;
-    let n = (at.b % 256) as u8;
-    let left = (at.c % 256) as u8;
-    let i = (at.d % 256) as u8;
-    let clears = at.d == 1;
+    let n = u8::unpack(at.b);
+    let left = u8::unpack(at.c);
+    let clears = bool::unpack(at.d);
     let phase = at.step % 32;
     match phase {
         0 => FpbAt::SetCtrl(value),
-        1 => FpbAt::Enable { value: value, n: n },
+        1 => FpbAt::Enable { value, n },
         2 => FpbAt::Seek {
-            value: value,
-            n: n,
-            left: left,
-            free: Free::Nowhere,
+            value,
+            n,
+            left,
+            free: None,
         },
         3 => FpbAt::Seek {
-            value: value,
-            n: n,
-            left: left,
-            free: Free::At(i),
+            value,
+            n,
+            left,
+            free: Some(u8::unpack(at.d)),
         },
         4 => FpbAt::Revision {
-            clears: clears,
+            clears,
             addr: value,
         },
-        5 => FpbAt::Count {
-            clears: clears,
-            value: value,
-        },
+        5 => FpbAt::Count { clears, value },
         6 => FpbAt::Find {
-            clears: clears,
-            value: value,
-            n: n,
-            left: left,
+            clears,
+            value,
+            n,
+            left,
         },
         _ => FpbAt::Write,
+    }
+}
+
+impl Packed<At> for FpbAt {
+    ghost told = { λ at. fpb_at_of at };
+
+    fn pack(self) -> At {
+        pack_fpb(self)
+    }
+
+    fn unpack(at: At) -> FpbAt {
+        unpack_fpb(at)
     }
 }
 
@@ -540,13 +520,6 @@ pub enum NrfAt {
     Last,
 }
 
-// A step of the flash in numbers: which one it is, and its count.
-#[derive(Clone, Copy)]
-struct StepNumbers {
-    kind: u32,
-    count: u32,
-}
-
 // What is done next with the flash, in numbers.
 #[derive(Clone, Copy)]
 struct FlashNumbers {
@@ -557,90 +530,93 @@ struct FlashNumbers {
     e: u32,
 }
 
-fn chip_number(chip: Chip) -> u32
-    ensures { (chip_of result ≡ chip) × (result < 2) }
-{
-    match chip {
-        Chip::Nrf52 => 0,
-        Chip::Nrf54 => 1,
+impl Packed<u32> for Chip {
+    ghost told = { λ n. chip_of n };
+
+    fn pack(self) -> u32
+        ensures { (chip_of result ≡ self) × (result < 2) }
+    {
+        match self {
+            Chip::Nrf52 => 0,
+            Chip::Nrf54 => 1,
+        }
+    }
+
+    fn unpack(n: u32) -> Chip {
+        match n {
+            0 => Chip::Nrf52,
+            _ => Chip::Nrf54,
+        }
     }
 }
 
-fn chip_of(n: u32) -> Chip
-    ensures { result ≡ chip_of n }
-{
-    match n {
-        0 => Chip::Nrf52,
-        _ => Chip::Nrf54,
+impl Packed<Numbers> for FlashStep {
+    ghost told = { λ x. step_of x.kind x.n };
+
+    fn pack(self) -> Numbers
+        ensures { (step_of result.kind result.n ≡ self) × (result.kind < 4) }
+    {
+        match self {
+            FlashStep::Settle(n) => Numbers { kind: 0, n },
+            FlashStep::Wait(n) => Numbers { kind: 1, n },
+            FlashStep::Next => Numbers { kind: 2, n: 0 },
+        }
+    }
+
+    fn unpack(x: Numbers) -> FlashStep {
+        match x.kind {
+            0 => FlashStep::Settle(x.n),
+            1 => FlashStep::Wait(x.n),
+            _ => FlashStep::Next,
+        }
     }
 }
 
-fn step_numbers(step: FlashStep) -> StepNumbers
-    ensures { (step_of result.kind result.count ≡ step) × (result.kind < 4) }
-{
-    match step {
-        FlashStep::Settle(polls) => StepNumbers {
-            kind: 0,
-            count: polls,
-        },
-        FlashStep::Wait(left) => StepNumbers {
-            kind: 1,
-            count: left,
-        },
-        FlashStep::Next => StepNumbers { kind: 2, count: 0 },
-    }
-}
+impl Packed<FlashNumbers> for Flash {
+    ghost told = { λ x. flash_of x.kind x.b x.c x.d x.e };
 
-fn step_of(kind: u32, count: u32) -> FlashStep
-    ensures { result ≡ step_of kind count }
-{
-    match kind {
-        0 => FlashStep::Settle(count),
-        1 => FlashStep::Wait(count),
-        _ => FlashStep::Next,
+    fn pack(self) -> FlashNumbers
+        ensures { (flash_of result.kind result.b result.c result.d result.e ≡ self) × (result.kind < 4) }
+    {
+        match self {
+            Flash::Page { page, polls } => FlashNumbers {
+                kind: 0,
+                b: page,
+                c: 0,
+                d: 0,
+                e: polls,
+            },
+            Flash::Words(p) => FlashNumbers {
+                kind: 1,
+                b: p.stop,
+                c: p.len,
+                d: p.left,
+                e: p.polls,
+            },
+            Flash::Close => FlashNumbers {
+                kind: 2,
+                b: 0,
+                c: 0,
+                d: 0,
+                e: 0,
+            },
+        }
     }
-}
 
-fn flash_numbers(then: Flash) -> FlashNumbers
-    ensures { (flash_of result.kind result.b result.c result.d result.e ≡ then) × (result.kind < 4) }
-{
-    match then {
-        Flash::Page { page, polls } => FlashNumbers {
-            kind: 0,
-            b: page,
-            c: 0,
-            d: 0,
-            e: polls,
-        },
-        Flash::Words(p) => FlashNumbers {
-            kind: 1,
-            b: p.stop,
-            c: p.len,
-            d: p.left,
-            e: p.polls,
-        },
-        Flash::Close => FlashNumbers {
-            kind: 2,
-            b: 0,
-            c: 0,
-            d: 0,
-            e: 0,
-        },
-    }
-}
-
-fn flash_of(kind: u32, b: u32, c: u32, d: u32, e: u32) -> Flash
-    ensures { result ≡ flash_of kind b c d e }
-{
-    match kind {
-        0 => Flash::Page { page: b, polls: e },
-        1 => Flash::Words(Program {
-            stop: b,
-            len: c,
-            left: d,
-            polls: e,
-        }),
-        _ => Flash::Close,
+    fn unpack(x: FlashNumbers) -> Flash {
+        match x.kind {
+            0 => Flash::Page {
+                page: x.b,
+                polls: x.e,
+            },
+            1 => Flash::Words(Program {
+                stop: x.b,
+                len: x.c,
+                left: x.d,
+                polls: x.e,
+            }),
+            _ => Flash::Close,
+        }
     }
 }
 
@@ -655,10 +631,10 @@ fn flash_number(step: u32, chip: u32, then: u32) -> u32
 fn pack_flash(step: FlashStep, chip: Chip, then: Flash) -> At
     ensures { nrf_at_of result ≡ P.Flash step chip then }
 {
-    let s = step_numbers(step);
-    let c = chip_number(chip);
-    let f = flash_numbers(then);
-    call_at::at_step(flash_number(s.kind, c, f.kind), s.count, f.b, f.c, f.d, f.e)
+    let s = step.pack();
+    let c = chip.pack();
+    let f = then.pack();
+    at_step(flash_number(s.kind, c, f.kind), s.n, f.b, f.c, f.d, f.e)
 }
 
 // Which operation is in flight, in numbers.
@@ -666,14 +642,14 @@ pub fn pack_nrf(p: NrfAt) -> At
     ensures { nrf_at_of result ≡ p }
 {
     match p {
-        NrfAt::Idr => call_at::at_step(0, 0, 0, 0, 0, 0),
-        NrfAt::Status(known) => call_at::at_step(1, call_at::flag(known), 0, 0, 0, 0),
-        NrfAt::EraseAll(polls) => call_at::at_step(2, polls, 0, 0, 0, 0),
-        NrfAt::Erasing(left) => call_at::at_step(3, left, 0, 0, 0, 0),
-        NrfAt::Reset(erased) => call_at::at_step(4, call_at::flag(erased), 0, 0, 0, 0),
-        NrfAt::Release(erased) => call_at::at_step(5, call_at::flag(erased), 0, 0, 0, 0),
+        NrfAt::Idr => at_step(0, 0, 0, 0, 0, 0),
+        NrfAt::Status(known) => at_step(1, known.pack(), 0, 0, 0, 0),
+        NrfAt::EraseAll(polls) => at_step(2, polls, 0, 0, 0, 0),
+        NrfAt::Erasing(left) => at_step(3, left, 0, 0, 0, 0),
+        NrfAt::Reset(erased) => at_step(4, erased.pack(), 0, 0, 0, 0),
+        NrfAt::Release(erased) => at_step(5, erased.pack(), 0, 0, 0, 0),
         NrfAt::Flash { step, chip, then } => pack_flash(step, chip, then),
-        NrfAt::Last => call_at::at_step(7, 0, 0, 0, 0, 0),
+        NrfAt::Last => at_step(7, 0, 0, 0, 0, 0),
     }
 }
 
@@ -684,16 +660,37 @@ pub fn unpack_nrf(at: At) -> NrfAt
     let n = at.step % 8;
     match n {
         0 => NrfAt::Idr,
-        1 => NrfAt::Status(at.a == 1),
+        1 => NrfAt::Status(bool::unpack(at.a)),
         2 => NrfAt::EraseAll(at.a),
         3 => NrfAt::Erasing(at.a),
-        4 => NrfAt::Reset(at.a == 1),
-        5 => NrfAt::Release(at.a == 1),
+        4 => NrfAt::Reset(bool::unpack(at.a)),
+        5 => NrfAt::Release(bool::unpack(at.a)),
         6 => NrfAt::Flash {
-            step: step_of(at.step / 8 % 4, at.a),
-            chip: chip_of(at.step / 64 % 2),
-            then: flash_of(at.step / 256 % 4, at.b, at.c, at.d, at.e),
+            step: FlashStep::unpack(Numbers {
+                kind: at.step / 8 % 4,
+                n: at.a,
+            }),
+            chip: Chip::unpack(at.step / 64 % 2),
+            then: Flash::unpack(FlashNumbers {
+                kind: at.step / 256 % 4,
+                b: at.b,
+                c: at.c,
+                d: at.d,
+                e: at.e,
+            }),
         },
         _ => NrfAt::Last,
+    }
+}
+
+impl Packed<At> for NrfAt {
+    ghost told = { λ at. nrf_at_of at };
+
+    fn pack(self) -> At {
+        pack_nrf(self)
+    }
+
+    fn unpack(at: At) -> NrfAt {
+        unpack_nrf(at)
     }
 }

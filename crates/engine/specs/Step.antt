@@ -2,10 +2,11 @@
 use Rattle.std.specs.Prelude.{ℕ, Bool, true, false, cond, List, [], ◌≡◌}
 use Rattle.wire.specs.Bytes.{handed, padded}
 use Rattle.wire.specs.Wire.{Wire, Memory, memory_of, done, ask, tell, follow}
-use Rattle.wire.specs.declared.Answer.{Answer}
-use Rattle.wire.specs.declared.Outcome.{Outcome}
+use Rattle.wire.specs.Outcomes.{Answer}
+use Rattle.wire.specs.Outcomes.{Outcome}
 use Rattle.wire_numbers.specs.Results.{result_of}
 use Rattle.wire_numbers.specs.Numbers.{numbers_of}
+use Rattle.wire_numbers.specs.declared.CallEnding.{CallEnding}
 use Rattle.wire_memap.specs.Laws.Doing.{remembered_of}
 use Rattle.engine_words.specs.Status.{Ended, status_of, own_of, CountedIn}
 use Rattle.engine.specs.Laws.State.{state_tree}
@@ -15,7 +16,7 @@ use Rattle.engine.specs.declared.State.{State}
 use Rattle.engine.specs.declared.StepAnswer.{StepAnswer}
 
 -- what comes next in a tree: a transport call, or how the call ended
-abbrev pub next_of : Wire → NextStep
+abbrev pub next_of : Wire → NextStep CallEnding
 next_of (done m o) = N.Finish (result_of o)
 next_of (ask m c f) = N.Make (numbers_of c)
 next_of (tell m c w) = N.Make (numbers_of c)

@@ -2,11 +2,12 @@
 // and the frame that it leaves.
 #![tactic(auto)]
 
-ghost use Rattle.std.specs.Prelude.{cond, ◌≡◌, ◌<◌};
-ghost use Rattle.engine_calls.specs.Calls.{job_of, lent_words, lent_flash, lent, frame_of, core_leaves, leaves_frame, leave};
+ghost use Rattle.std.specs.Prelude.{◌≡◌, ◌<◌};
+ghost use Rattle.engine_calls.specs.declared.EngineCall.TheVariants as E;
+ghost use Rattle.engine_calls.specs.Calls.{job_of, lent, frame_of, leaves_frame, leave};
 ghost use Rattle.engine_calls.specs.Laws.After.{call_after, asks_job, in_group};
 
-use call::{Asks, Change, Next};
+use call::Asks;
 use call_at::At;
 use call_connect::ConnectCall;
 use call_core::CoreCall;
@@ -25,7 +26,49 @@ pub enum EngineCall {
     Nrf(NrfCall),
 }
 
+// A group's call as one of them all.
+impl From<ConnectCall> for EngineCall {
+    ghost from_gives = { λ c q. q ≡ E.Connect c };
+
+    fn from(c: ConnectCall) -> EngineCall {
+        EngineCall::Connect(c)
+    }
+}
+
+impl From<MemoryCall> for EngineCall {
+    ghost from_gives = { λ c q. q ≡ E.Memory c };
+
+    fn from(c: MemoryCall) -> EngineCall {
+        EngineCall::Memory(c)
+    }
+}
+
+impl From<CoreCall> for EngineCall {
+    ghost from_gives = { λ c q. q ≡ E.Core c };
+
+    fn from(c: CoreCall) -> EngineCall {
+        EngineCall::Core(c)
+    }
+}
+
+impl From<FpbCall> for EngineCall {
+    ghost from_gives = { λ c q. q ≡ E.Fpb c };
+
+    fn from(c: FpbCall) -> EngineCall {
+        EngineCall::Fpb(c)
+    }
+}
+
+impl From<NrfCall> for EngineCall {
+    ghost from_gives = { λ c q. q ≡ E.Nrf c };
+
+    fn from(c: NrfCall) -> EngineCall {
+        EngineCall::Nrf(c)
+    }
+}
+
 // The groups of calls. `step` of a call in flight has the group by 1024, and below it what the group's own functions gave.
+// Stays: numbers for the groups: the words of a session hold them, and any other number is the last group.
 const MEMORY: u32 = 0;
 
 const CONNECT: u32 = 1;
@@ -41,13 +84,12 @@ fn grouped(group: u32, q: Asks) -> Asks
     requires { group < 8 }
     ensures { (result.change ≡ q.change) × (result.next ≡ q.next) × (result.at ≡ in_group group q.at) }
 {
-    let change = q.change;
-    let at = q.at;
-    let next = q.next;
     Asks {
-        change: change,
-        at: call_at::at_step(1024 * group + at.step % 1024, at.a, at.b, at.c, at.d, at.e),
-        next: next,
+        at: At {
+            step: 1024 * group + q.at.step % 1024,
+            ..q.at
+        },
+        ..q
     }
 }
 
@@ -55,15 +97,13 @@ fn grouped(group: u32, q: Asks) -> Asks
 pub fn call_after(at: At, o: Outcome) -> Asks
     ensures { call_after at o ≡ asks_job result }
 {
-    let step = at.step;
-    if step == 0 {
+    if at.step == 0 {
         return Asks {
-            change: Change::Nothing,
-            at: at,
-            next: Next::End(o),
+            at,
+            ..call::ended(o)
         };
     }
-    let group = step / 1024;
+    let group = at.step / 1024;
     match group {
         MEMORY => grouped(MEMORY, call_memory::call_after(at, o)),
         CONNECT => grouped(CONNECT, call_connect::call_after(at, o)),
@@ -87,63 +127,16 @@ pub fn call_start(c: EngineCall, words: usize, bytes: usize) -> Asks
 }
 
 // Whether a call runs over the caller's own words.
-fn owns_words(c: MemoryCall) -> bool
-    ensures { result ≡ lent_words c }
-{
-    match c {
-        MemoryCall::SetApsel(_) => false,
-        MemoryCall::ApRegRead(_) => false,
-        MemoryCall::ApRegWrite(_, _) => false,
-        MemoryCall::ReadWord(_) => false,
-        MemoryCall::WriteWord(_, _) => false,
-        MemoryCall::ReadWords(_) => true,
-        MemoryCall::WriteWords(_) => true,
-        MemoryCall::ReadMem(_) => false,
-        MemoryCall::WriteMem(_) => false,
-    }
-}
-
-fn owns_flash(c: NrfCall) -> bool
-    ensures { result ≡ lent_flash c }
-{
-    match c {
-        NrfCall::Nrf52ApprotectStatus => false,
-        NrfCall::Nrf52EraseAll(_) => false,
-        NrfCall::Nrf52ErasePage { .. } => false,
-        NrfCall::Nrf52Program { .. } => true,
-        NrfCall::Nrf54ApprotectStatus => false,
-        NrfCall::Nrf54EraseAll(_) => false,
-        NrfCall::Nrf54Program { .. } => true,
-    }
-}
-
 pub fn owns(c: EngineCall) -> bool
     ensures { result ≡ lent c }
 {
     match c {
-        EngineCall::Connect(_) => false,
-        EngineCall::Memory(q) => owns_words(q),
-        EngineCall::Core(_) => false,
-        EngineCall::Fpb(_) => false,
-        EngineCall::Nrf(q) => owns_flash(q),
-    }
-}
-
-fn core_leaves(c: CoreCall) -> bool
-    ensures { result ≡ core_leaves c }
-{
-    match c {
-        CoreCall::DebugEnable => false,
-        CoreCall::Halt => false,
-        CoreCall::Resume => false,
-        CoreCall::Step => false,
-        CoreCall::IsHalted => false,
-        CoreCall::ReadCoreReg(_) => false,
-        CoreCall::WriteCoreReg(_, _) => false,
-        CoreCall::RomFuncLookup(_, _) => false,
-        CoreCall::StartFunction(_) => true,
-        CoreCall::FinishFunction(_, _) => false,
-        CoreCall::CallFunction(_, _) => false,
+        EngineCall::Memory(q) => matches!(q, MemoryCall::ReadWords(_) | MemoryCall::WriteWords(_)),
+        EngineCall::Nrf(q) => matches!(
+            q,
+            NrfCall::Nrf52Program { .. } | NrfCall::Nrf54Program { .. }
+        ),
+        _ => false,
     }
 }
 
@@ -151,13 +144,7 @@ fn core_leaves(c: CoreCall) -> bool
 pub fn leaves_frame(c: EngineCall) -> bool
     ensures { result ≡ leaves_frame c }
 {
-    match c {
-        EngineCall::Connect(_) => false,
-        EngineCall::Memory(_) => false,
-        EngineCall::Core(q) => core_leaves(q),
-        EngineCall::Fpb(_) => false,
-        EngineCall::Nrf(_) => false,
-    }
+    matches!(c, EngineCall::Core(CoreCall::StartFunction(_)))
 }
 
 // The frame in the room's first eight words.
@@ -169,22 +156,9 @@ fn frame_of(room: &[u32; 192]) -> [u32; 8]
     ]
 }
 
-// A call that failed hands no frame over.
-fn handed_over(ok: bool, left: [u32; 8], before: [u32; 8]) -> [u32; 8]
-    ensures { result ≡ cond ok left before }
-{
-    if ok {
-        return left;
-    }
-    before
-}
-
-// The frame after a call.
+// The frame after a call; one that failed hands none over.
 pub fn frame_left(leaves: bool, ok: bool, room: &[u32; 192], before: [u32; 8]) -> [u32; 8]
     ensures { result ≡ leave leaves ok room.now before }
 {
-    if leaves {
-        return handed_over(ok, frame_of(room), before);
-    }
-    before
+    if leaves && ok { frame_of(room) } else { before }
 }

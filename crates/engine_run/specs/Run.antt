@@ -3,7 +3,7 @@ use Rattle.std.specs.Prelude.{ℕ, ◌≡◌, List, map, length, take}
 use Rattle.std.proofs.lemmas.List.Edits.{sets}
 use Rattle.wire.specs.Wire.{memory_of, Played}
 use Rattle.wire.specs.declared.Call.{Call}
-use Rattle.wire.specs.declared.Answer.{Answer}
+use Rattle.wire.specs.Outcomes.{Answer}
 use Rattle.wire_numbers.specs.Results.{ending_of}
 use Rattle.wire_numbers.specs.Log.{answer_of, code_of, call_of}
 use Rattle.engine_calls.specs.Calls.{words_left, frame_left}

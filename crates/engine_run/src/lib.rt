@@ -1,4 +1,6 @@
 // A whole call of the engine over a budget of answers: a loop over its steps.
+// Stays: the words t, m and c go apart, and room, words and buf, as C lends them to `bench_start` and `bench_step`: a struct of them would be
+// copied in and out at each step.
 #![tactic(auto)]
 
 ghost use Rattle.std.specs.Prelude.{Bool, List, ◌≡◌, ℕ, ◌<◌, ◌≤◌, length, take};
@@ -25,11 +27,7 @@ pub struct Ran {
 fn limit_of(budget: u32, answers: &[u64]) -> u32
     ensures { (take result answers.now ≡ take budget answers.now) × (result ≤ length answers.now) }
 {
-    let n = answers.len();
-    if n < (budget as usize) {
-        return n as u32;
-    }
-    budget
+    answers.len().min(budget as usize) as u32
 }
 
 // One transport call of a call under way: it is noted, and the step takes its answer.
@@ -50,17 +48,8 @@ fn turn(
         buf.new log.new }
 {
     wire_numbers::note_due(log, i, t);
-    let j = i as usize;
-    let x = answers[j];
-    if x < 0x100000000 {
-        let v = x as u32;
-        if engine_words::runs_in(t, m, c, v, room) {
-            return;
-        }
-        if engine_words::moves_in(t, m, c, v, room) {
-            return;
-        }
-        engine_words::step_in(t, m, c, Answer::Good(v), room, words, buf);
+    let x = answers[i as usize];
+    if engine_words::takes_in(t, m, c, x, room) {
         return;
     }
     engine_words::step_in(t, m, c, wire_numbers::answer_of(x), room, words, buf);
@@ -84,16 +73,18 @@ fn run_on(
         → Stops own w limit answers.now room₀ words₀ log.old result t.new m.new c.new
         room.new words.new buf.new log.new }
 {
-    let mut i: u32 = 0;
-    while i < limit {
+    // Stays: by number: it is the place in the log too, and what the run answers.
+    for i in 0..limit {
         if !engine_words::is_running(c) {
             return i;
         }
         turn(t, m, c, i, answers, room, words, buf, log);
-        i += 1;
     }
-    i
+    limit
 }
+
+// 01's number of a call whose budget did not suffice.
+const SPENT: u8 = 11;
 
 // How a run has ended: with its call, or with its budget.
 fn ending_of(c: &[u32; 9]) -> CallEnding
@@ -101,7 +92,7 @@ fn ending_of(c: &[u32; 9]) -> CallEnding
 {
     if engine_words::is_running(c) {
         return CallEnding {
-            number: 11,
+            number: SPENT,
             value: 0,
         };
     }

@@ -3,7 +3,7 @@ use Rattle.std.specs.Prelude.{ℕ, ◌%◌, Bool, true, false, List, eqb, ltb, g
 use Rattle.wire_transfer.specs.Count.{Counted}
 use Rattle.wire.specs.Laws.Told.{outcome_of}
 use Rattle.wire.specs.Wire.{Wire, Memory, done}
-use Rattle.wire.specs.declared.Outcome.{Outcome}
+use Rattle.wire.specs.Outcomes.{Outcome}
 
 -- whether a call is under way, or how it ended
 pub data Status : Type 0 where

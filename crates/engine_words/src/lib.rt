@@ -1,10 +1,12 @@
 // A call of the engine in words that are lent and updated in place: its start, and a step by the last answer.
+// Stays: the words t, m and c go apart, and room, words and buf, as C lends them to `bench_start` and `bench_step`: a struct of them would be
+// copied in and out at each step.
 #![tactic(auto)]
 
-ghost use Rattle.std.specs.Prelude.{◌≡◌, get_or};
+ghost use Rattle.std.specs.Prelude.{◌≡◌, get_or, Ok};
 ghost use Rattle.wire.specs.Laws.Told.{outcome_of};
-ghost use Rattle.wire.specs.declared.Answer.TheVariants.{Good};
 ghost use Rattle.wire_numbers.specs.Results.{result_of};
+ghost use Rattle.wire_numbers.specs.Log.{answer_of};
 ghost use Rattle.engine_words.specs.Status.{running};
 ghost use Rattle.engine_words.specs.Laws.State.{at_of, on_room};
 ghost use Rattle.engine_words.specs.Laws.Step.{stored_at, EndsIn, BeginsNext, Changes, AsksIn, FinishesIn, StepsIn, StartedIn, SteppedIn, TriesIn};
@@ -12,10 +14,13 @@ ghost use Rattle.engine_words.specs.Laws.Step.{stored_at, EndsIn, BeginsNext, Ch
 use call::{Asks, Change, Next};
 use call_at::At;
 use engine_calls::EngineCall;
-use wire::{Answer, Outcome};
-use wire_memap::Went;
+use wire::{Answer, Outcome, Told};
+use wire_memap::AtOnce;
 use wire_numbers::CallEnding;
+use wire_runs::NextWord;
+use wire_step::NextAccess;
 
+// Stays: places and numbers: `bazkondur_engine_step` is lent an engine as words of C, which are updated in place.
 // The words of a call. STEP and the five after it: which operation is in flight, and what the call goes on with.
 const STEP: usize = 0;
 
@@ -61,7 +66,7 @@ fn store_at(c: &mut [u32; 9], at: At)
 pub fn over(c: &mut [u32; 9], o: Outcome)
     ensures { EndsIn o c.old c.new }
 {
-    let x = wire::outcome_told(o);
+    let x = Told::from(o);
     c[STATUS] = ENDED + c[STATUS] % 2;
     c[NUMBER] = x.number;
     c[VALUE] = x.value;
@@ -140,9 +145,8 @@ fn step_over(
     ensures { StepsIn a t.old m.old c.old ws.old buf.old
         t.new m.new c.new ws.new buf.new }
 {
-    match wire_step::op_step(t, m, a, ws) {
-        Went::Moving => {}
-        Went::Finished(o) => finished(t, m, c, o, ws, buf),
+    if let Some(o) = wire_step::op_step(t, m, a, ws) {
+        finished(t, m, c, o, ws, buf);
     }
 }
 
@@ -194,37 +198,39 @@ pub fn step_in(
     }
 }
 
-// The step of a call over the room with the value v for an answer, where that is a word of a run and another follows: true, and it is
-// taken at once, as nearly all transfers of a memory call are such words; or false, and nothing is done.
-pub fn runs_in(
+// The step of a call over the room with the value v for an answer, in one of the ways to take it at once: true, and the step is taken;
+// or false, and nothing is done. `NextWord`: a word of a run that another follows, as nearly all transfers of a memory call are;
+// `NextAccess`: any access that another follows.
+pub fn taken_in<W: AtOnce>(
     t: &mut [u32; 7],
     m: &mut [u32; 12],
     c: &[u32; 9],
     v: u32,
     room: &mut [u32; 192],
 ) -> bool
-    ensures { TriesIn (Good v) result t.old m.old c.now room.old
+    ensures { TriesIn (Ok v) result t.old m.old c.now room.old
         t.new m.new room.new }
 {
-    if c[STATUS] == 0 {
-        return wire_runs::op_runs(t, m, v, room);
-    }
-    false
+    c[STATUS] == 0 && W::takes(t, m, v, room)
 }
 
-// The same with the value of any access that another follows.
-pub fn moves_in(
+// The same with the answer that a number stands for: a value is taken at once where an access follows it.
+#[inline(always)]
+#[tactic(auto, using(wire_numbers::specs::Laws::Log::good_answer_lem))]
+pub fn takes_in(
     t: &mut [u32; 7],
     m: &mut [u32; 12],
     c: &[u32; 9],
-    v: u32,
+    x: u64,
     room: &mut [u32; 192],
 ) -> bool
-    ensures { TriesIn (Good v) result t.old m.old c.now room.old
+    ensures { TriesIn (answer_of x) result t.old m.old c.now room.old
         t.new m.new room.new }
 {
-    if c[STATUS] == 0 {
-        return wire_step::op_moves(t, m, v, room);
+    // Stays: `u32::try_from(x)` takes two more instructions in each transport call of `bench_step` and `bench_run`.
+    if x < 0x100000000 {
+        let v = x as u32;
+        return taken_in::<NextWord>(t, m, c, v, room) || taken_in::<NextAccess>(t, m, c, v, room);
     }
     false
 }
@@ -240,7 +246,10 @@ pub fn is_running(c: &[u32; 9]) -> bool
 pub fn ending(c: &[u32; 9]) -> CallEnding
     ensures { result ≡ result_of (outcome_of (get_or c.now 7 0) (get_or c.now 8 0)) }
 {
-    wire_numbers::result_of(wire::outcome_at(c[NUMBER], c[VALUE]))
+    wire_numbers::result_of(Outcome::from(Told {
+        number: c[NUMBER],
+        value: c[VALUE],
+    }))
 }
 
 // The same call, over the room.

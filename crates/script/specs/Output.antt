@@ -1,5 +1,5 @@
 -- What a script prints (01: The script): `output_of` is the whole output of any input.
-use Rattle.std.specs.Prelude.{ℕ, eqb, Bool, true, false, cond, List, ◌++◌, length, replicate}
+use Rattle.std.specs.Prelude.{ℕ, eqb, Bool, true, false, cond, List, ◌++◌, length, replicate, Option, Some, None}
 use Rattle.wire.specs.Wire.{Played, play}
 use Rattle.wire_numbers.specs.Results.{ending_of}
 use Rattle.wire_numbers.specs.declared.CallEnding.{CallEnding}
@@ -16,7 +16,6 @@ use Rattle.script_form.specs.Script.{well_formed, arguments, answers}
 use Rattle.script_request.specs.declared.Buffer.{Buffer}
 use Rattle.script_request.specs.declared.Buffer.TheVariants as B
 use Rattle.script_request.specs.declared.Request.{Request}
-use Rattle.script_request.specs.declared.Request.TheVariants.{Malformed, Asked}
 
 -- what is shown behind the result: of calls 11 and 13 the buffer, however they ended; of call 23 its frame if it succeeds
 abbrev pub shown_of : CallEnding → Buffer → Shown
@@ -43,12 +42,13 @@ run_text c b words p =
     call_lines 1 p.calls ++ (result_line e ++ shown_text (shown_of e b) (words_shown c b words p) p.memory.buf)
 
 -- a call on a new engine; the number of answers is the budget
-unfoldable pub performed : EngineCall → Buffer → List ℕ → List ℕ → List ℕ → List ℕ
-performed c b words buf xs = run_text c b words (play (call_tree c fresh zero_room words buf) (within (length xs) xs))
+unfoldable pub performed : Request → List ℕ → List ℕ → List ℕ → List ℕ
+performed r words buf xs = run_text r.call r.buffer words (play (call_tree r.call fresh zero_room words buf) (within (length xs) xs))
 
-unfoldable pub request_text : Request → List ℕ → List ℕ
-request_text Malformed xs = malformed_text
-request_text (Asked c b) xs = performed c b (words_of b (arguments xs)) (bytes_of b (arguments xs)) (answers xs)
+-- none: the number has no call, or other arguments
+unfoldable pub request_text : Option Request → List ℕ → List ℕ
+request_text None xs = malformed_text
+request_text (Some r) xs = performed r (words_of r.buffer (arguments xs)) (bytes_of r.buffer (arguments xs)) (answers xs)
 
 abbrev pub script_text : List ℕ → List ℕ
 script_text xs = request_text (request_of (byte xs 3) (arguments xs)) xs

@@ -45,7 +45,7 @@ data_start zero = 0x44 ∷ []
 data_start (suc n) = 0x44 ∷ space ∷ []
 
 -- `D` and the buffer, each number by f; `D` alone if it is empty
-abbrev pub data_line : (ℕ → List ℕ) → List ℕ → List ℕ
+abbrev pub data_line : {A : Type 0} → (A → List ℕ) → List A → List ℕ
 data_line f xs = data_start (length xs) ++ (together f xs ++ (newline ∷ []))
 
 abbrev pub shown_text : Shown → List ℕ → List ℕ → List ℕ

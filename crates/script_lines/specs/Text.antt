@@ -31,7 +31,7 @@ hex_byte b = hex 2 b
 abbrev pub hex_word : ℕ → List ℕ
 hex_word w = hex 8 w
 
--- each number of a list by f, run together
-unfoldable pub together : (ℕ → List ℕ) → List ℕ → List ℕ
+-- each item of a list by f, run together
+unfoldable pub together : {A : Type 0} → (A → List ℕ) → List A → List ℕ
 together f [] = []
 together f (x ∷ xs) = f x ++ together f xs

@@ -1,15 +1,15 @@
-// The lines that a script prints. A function that takes a place `at` puts its text into `out` from there on and answers the
-// place behind it; what falls outside `out` is dropped.
+// The lines that a script prints.
 #![tactic(auto)]
 
-ghost use Rattle.std.specs.Prelude.{◌≡◌, [], ◌∷◌, map, ◌+◌, ◌*◌, ◌^◌, ◌≤◌, ◌<◌, max, min, length};
+ghost use Rattle.std.specs.Prelude.{ℕ, ◌≡◌, [], ◌∷◌, map, ◌+◌, ◌*◌, ◌^◌, ◌≤◌, ◌<◌, max, min, length};
 ghost use Rattle.wire.specs.Bytes.{handed, padded};
 ghost use Rattle.wire.specs.declared.Call.{Call};
 ghost use Rattle.wire_numbers.specs.Numbers.{numbers_of};
 ghost use Rattle.wire_numbers.specs.Log.{call_of};
-ghost use Rattle.script_lines.specs.Text.{space, digit, digits, decimal, hex, hex_byte, hex_word, together};
+ghost use Rattle.script_lines.specs.Text.{space, digit, digits, decimal, hex, together};
 ghost use Rattle.script_lines.specs.Listing.{bits_text, call_text, call_line, call_lines, result_line, malformed_text, data_start, data_line, shown_text, listed};
 ghost use Rattle.script_lines.specs.Laws.Puts.{Puts};
+ghost use Rattle.script_lines.specs.Laws.Lines.{Adds};
 ghost use Rattle.script_lines.specs.Laws.Numbers.{handed_text, numbers_text, numbers_line};
 
 use wire::Call;
@@ -23,17 +23,43 @@ pub enum Shown {
     Bytes,
 }
 
-fn put(out: &mut [u8], at: usize, b: u8) -> usize
-    requires { at < 2 ^ 63 }
-    ensures { Puts out.old at (b ∷ []) out.new result }
-{
-    if out.len() <= at {
-        return at + 1;
-    }
-    out[at] = b;
-    at + 1
+// A number that is printed with a fixed count of hexadecimal digits.
+trait Hex: Copy {
+    ghost DIGITS: { ℕ };
+
+    ghost number: { Self → ℕ };
+
+    const DIGITS: u32;
+
+    fn number(self) -> u32
+        ensures { result ≡ number self };
 }
 
+impl Hex for u8 {
+    ghost DIGITS = { 2 };
+
+    ghost number = { λ x. x };
+
+    const DIGITS: u32 = 2;
+
+    fn number(self) -> u32 {
+        u32::from(self)
+    }
+}
+
+impl Hex for u32 {
+    ghost DIGITS = { 8 };
+
+    ghost number = { λ x. x };
+
+    const DIGITS: u32 = 8;
+
+    fn number(self) -> u32 {
+        self
+    }
+}
+
+// Stays: digits by hand, here and below: a clause knows what write! puts into a String alone, which takes the heap, and nothing of {:X}.
 fn digit_of(d: u32) -> u8
     requires { d < 16 }
     ensures { result ≡ digit d }
@@ -44,169 +70,214 @@ fn digit_of(d: u32) -> u8
     0x37 + (d as u8)
 }
 
-// At most k decimal digits of n.
-fn put_digits(out: &mut [u8], at: usize, k: u32, n: u32) -> usize
-    requires { at + k ≤ 2 ^ 62 }
-    ensures { Puts out.old at (digits k n) out.new result × (result ≤ at + k) }
-{
-    if k == 0 {
-        return at;
-    }
-    if n < 10 {
-        return put(out, at, digit_of(n));
-    }
-    let p = put_digits(out, at, k - 1, n / 10);
-    put(out, p, digit_of(n % 10))
-}
-
-fn put_decimal(out: &mut [u8], at: usize, n: u32) -> usize
-    requires { at ≤ 2 ^ 61 }
-    ensures { Puts out.old at (decimal n) out.new result × (result ≤ at + 10) }
-{
-    put_digits(out, at, 10, n)
-}
-
-// The last k hexadecimal digits of n.
-fn put_hex(out: &mut [u8], at: usize, k: u32, n: u32) -> usize
-    requires { at + k ≤ 2 ^ 62 }
-    ensures { Puts out.old at (hex k n) out.new result × (result ≡ at + k) }
-{
-    if k == 0 {
-        return at;
-    }
-    let p = put_hex(out, at, k - 1, n / 16);
-    put(out, p, digit_of(n % 16))
-}
-
-// A space and k hexadecimal digits of n.
-fn put_field(out: &mut [u8], at: usize, k: u32, n: u32) -> usize
-    requires { at + k ≤ 2 ^ 61 }
-    ensures { Puts out.old at (space ∷ hex k n) out.new result × (result ≡ at + 1 + k) }
-{
-    let p = put(out, at, b' ');
-    put_hex(out, p, k, n)
-}
-
-fn wide(x: u8) -> u32
-    ensures { result ≡ x }
-{
-    x as u32
-}
-
-fn put_hex_bytes(out: &mut [u8], at: usize, bytes: &[u8]) -> usize
-    requires { at + 2 * length bytes.now ≤ 2 ^ 61 }
-    ensures { Puts out.old at (together hex_byte bytes.now) out.new result
-        × (result ≡ at + 2 * length bytes.now) }
-{
-    let mut p = at;
-    let mut i = 0;
-    while i < bytes.len() {
-        p = put_hex(out, p, 2, wide(bytes[i]));
-        i += 1;
-    }
-    p
-}
-
-fn put_hex_words(out: &mut [u8], at: usize, words: &[u32]) -> usize
-    requires { at + 8 * length words.now ≤ 2 ^ 61 }
-    ensures { Puts out.old at (together hex_word words.now) out.new result
-        × (result ≡ at + 8 * length words.now) }
-{
-    let mut p = at;
-    let mut i = 0;
-    while i < words.len() {
-        p = put_hex(out, p, 8, words[i]);
-        i += 1;
-    }
-    p
-}
-
-fn put_transfer(out: &mut [u8], at: usize, request: u8, word: u32) -> usize
-    requires { at ≤ 2 ^ 60 }
-    ensures { Puts out.old at (call_text (Call.Transfer request word)) out.new result × (result ≤ at + 12) }
-{
-    let p = put(out, at, b'T');
-    let p2 = put_field(out, p, 1, request as u32);
-    put_field(out, p2, 8, word)
-}
-
-fn put_pins(out: &mut [u8], at: usize, output: u8, select: u8, wait: u32) -> usize
-    requires { at ≤ 2 ^ 60 }
-    ensures { Puts out.old at (call_text (Call.Pins output select wait)) out.new result × (result ≤ at + 16) }
-{
-    let p = put(out, at, b'P');
-    let p2 = put_field(out, p, 2, output as u32);
-    let p3 = put_field(out, p2, 2, select as u32);
-    put_field(out, p3, 8, wait)
-}
-
-// A letter, a number of bits and the bytes handed over.
-fn put_bits(out: &mut [u8], at: usize, letter: u8, bits: u8, bytes: &[u8]) -> usize
-    requires { at + 2 * length bytes.now ≤ 2 ^ 60 }
-    ensures { Puts out.old at (bits_text letter bits bytes.now) out.new result
-        × (result ≤ at + 13 + 2 * length bytes.now) }
-{
-    let p = put(out, at, letter);
-    let p2 = put(out, p, b' ');
-    let p3 = put_decimal(out, p2, bits as u32);
-    let p4 = put(out, p3, b' ');
-    put_hex_bytes(out, p4, bytes)
-}
-
 // How many of the sixteen bytes beside a transport call are handed over.
 fn handed_bytes(len: u8) -> usize
     ensures { result ≡ min len 16 }
 {
-    if len < 16 {
-        return len as usize;
-    }
-    16
+    usize::from(len).min(16)
 }
 
-// A transport call that hands bytes over.
-fn put_handed(out: &mut [u8], at: usize, c: TransportCall, bytes: [u8; 16]) -> usize
-    requires { at ≤ 2 ^ 59 }
-    ensures { Puts out.old at (handed_text c bytes) out.new result × (result ≤ at + 45) }
-{
-    let len = handed_bytes(c.len);
-    put_bits(out, at, c.kind, c.bits, &bytes[..len])
+// Stays: the lent bytes and a place, and no writer of std's: `at` counts on past the end, as dapscript answers the length of all.
+// Text is put into `out`, one behind the other; `at` is the place behind it. What falls outside `out` is dropped.
+#[derive(Drop)]
+struct Lines<'a> {
+    out: &'a mut [u8],
+    at: usize,
 }
 
-// A transport call in numbers, with the bytes beside it.
-fn put_call(out: &mut [u8], at: usize, c: TransportCall, bytes: [u8; 16]) -> usize
-    requires { at ≤ 2 ^ 59 }
-    ensures { Puts out.old at (numbers_text c bytes) out.new result × (result ≤ at + 45) }
-{
-    let kind = c.kind;
-    if kind == b'T' {
-        return put_transfer(out, at, c.request, c.word);
+// Stays: a bound on `at` in each method, and no invariant: each of them adds, so that no fixed bound would be kept.
+impl<'a> Lines<'a> {
+    fn put(&mut self, b: u8)
+        requires { self.old.at < 2 ^ 63 }
+        ensures { Adds self.old (b ∷ []) self.new }
+    {
+        slots::put(self.out, self.at, b);
+        self.at += 1;
     }
-    if kind == b'P' {
-        return put_pins(out, at, c.output, c.select, c.word);
-    }
-    if (kind == b'C') | (kind == b'O') {
-        return put(out, at, kind);
-    }
-    put_handed(out, at, c, bytes)
-}
 
-fn put_numbers(out: &mut [u8], at: usize, number: u32, c: TransportCall, bytes: [u8; 16]) -> usize
-    requires { at ≤ 2 ^ 58 }
-    ensures { Puts out.old at (numbers_line number c bytes) out.new result × (result ≤ at + 57) }
-{
-    let p = put_decimal(out, at, number);
-    let p2 = put(out, p, b' ');
-    let p3 = put_call(out, p2, c, bytes);
-    put(out, p3, b'\n')
-}
+    // At most k decimal digits of n.
+    fn digits(&mut self, k: u32, n: u32)
+        requires { self.old.at + k ≤ 2 ^ 62 }
+        ensures { Adds self.old (digits k n) self.new × (self.new.at ≤ self.old.at + k) }
+    {
+        if k == 0 {
+            return;
+        }
+        if n < 10 {
+            self.put(digit_of(n));
+            return;
+        }
+        self.digits(k - 1, n / 10);
+        self.put(digit_of(n % 10));
+    }
 
-fn put_line(out: &mut [u8], at: usize, number: u32, c: Call) -> usize
-    requires { at ≤ 2 ^ 58 }
-    ensures { Puts out.old at (call_line number c) out.new result × (result ≤ at + 57) }
-{
-    let n = wire_numbers::numbers_of(c);
-    let bytes = wire_numbers::bytes_of(c);
-    put_numbers(out, at, number, n, bytes)
+    fn decimal(&mut self, n: u32)
+        requires { self.old.at ≤ 2 ^ 61 }
+        ensures { Adds self.old (decimal n) self.new × (self.new.at ≤ self.old.at + 10) }
+    {
+        self.digits(10, n);
+    }
+
+    // The last k hexadecimal digits of n.
+    fn hex(&mut self, k: u32, n: u32)
+        requires { self.old.at + k ≤ 2 ^ 62 }
+        ensures { Adds self.old (hex k n) self.new × (self.new.at ≡ self.old.at + k) }
+    {
+        if k == 0 {
+            return;
+        }
+        self.hex(k - 1, n / 16);
+        self.put(digit_of(n % 16));
+    }
+
+    // A space and k hexadecimal digits of n.
+    fn field(&mut self, k: u32, n: u32)
+        requires { self.old.at + k ≤ 2 ^ 61 }
+        ensures { Adds self.old (space ∷ hex k n) self.new × (self.new.at ≡ self.old.at + 1 + k) }
+    {
+        self.put(b' ');
+        self.hex(k, n);
+    }
+
+    // Numbers run together.
+    fn hex_each<T: Hex>(&mut self, xs: &[T])
+        requires { self.old.at + T.DIGITS * length xs.now ≤ 2 ^ 61 }
+        ensures { Adds self.old (together (λ x. hex T.DIGITS (T.number x)) xs.now) self.new
+            × (self.new.at ≡ self.old.at + T.DIGITS * length xs.now) }
+    {
+        for x in xs {
+            self.hex(T::DIGITS, x.number());
+        }
+    }
+
+    fn transfer(&mut self, request: u8, word: u32)
+        requires { self.old.at ≤ 2 ^ 60 }
+        ensures { Adds self.old (call_text (Call.Transfer request word)) self.new × (self.new.at ≤ self.old.at + 12) }
+    {
+        self.put(b'T');
+        self.field(1, u32::from(request));
+        self.field(8, word);
+    }
+
+    fn pins(&mut self, output: u8, select: u8, wait: u32)
+        requires { self.old.at ≤ 2 ^ 60 }
+        ensures { Adds self.old (call_text (Call.Pins output select wait)) self.new × (self.new.at ≤ self.old.at + 16) }
+    {
+        self.put(b'P');
+        self.field(2, u32::from(output));
+        self.field(2, u32::from(select));
+        self.field(8, wait);
+    }
+
+    // A letter, a number of bits and the bytes handed over.
+    fn bits(&mut self, letter: u8, bits: u8, bytes: &[u8])
+        requires { self.old.at + 2 * length bytes.now ≤ 2 ^ 60 }
+        ensures { Adds self.old (bits_text letter bits bytes.now) self.new
+            × (self.new.at ≤ self.old.at + 13 + 2 * length bytes.now) }
+    {
+        self.put(letter);
+        self.put(b' ');
+        self.decimal(u32::from(bits));
+        self.put(b' ');
+        self.hex_each(bytes);
+    }
+
+    // A transport call that hands bytes over.
+    fn handed(&mut self, c: TransportCall, bytes: [u8; 16])
+        requires { self.old.at ≤ 2 ^ 59 }
+        ensures { Adds self.old (handed_text c bytes) self.new × (self.new.at ≤ self.old.at + 45) }
+    {
+        self.bits(c.kind, c.bits, &bytes[..handed_bytes(c.len)]);
+    }
+
+    // A transport call in numbers, with the bytes beside it.
+    fn call(&mut self, c: TransportCall, bytes: [u8; 16])
+        requires { self.old.at ≤ 2 ^ 59 }
+        ensures { Adds self.old (numbers_text c bytes) self.new × (self.new.at ≤ self.old.at + 45) }
+    {
+        match c.kind {
+            b'T' => self.transfer(c.request, c.word),
+            b'P' => self.pins(c.output, c.select, c.word),
+            b'C' | b'O' => self.put(c.kind),
+            _ => self.handed(c, bytes),
+        }
+    }
+
+    fn numbers(&mut self, number: u32, c: TransportCall, bytes: [u8; 16])
+        requires { self.old.at ≤ 2 ^ 58 }
+        ensures { Adds self.old (numbers_line number c bytes) self.new × (self.new.at ≤ self.old.at + 57) }
+    {
+        self.decimal(number);
+        self.put(b' ');
+        self.call(c, bytes);
+        self.put(b'\n');
+    }
+
+    fn line(&mut self, number: u32, c: Call)
+        requires { self.old.at ≤ 2 ^ 58 }
+        ensures { Adds self.old (call_line number c) self.new × (self.new.at ≤ self.old.at + 57) }
+    {
+        self.numbers(
+            number,
+            wire_numbers::numbers_of(c),
+            wire_numbers::bytes_of(c),
+        );
+    }
+
+    // A line for each transport call of a log.
+    fn calls(&mut self, log: &[u64])
+        requires { (self.old.at ≡ 0) × (length log.now < 2 ^ 32) }
+        ensures { Adds self.old (call_lines 1 (map call_of log.now)) self.new
+            × (self.new.at ≤ 57 * length log.now) }
+    {
+        for i in 0..log.len() {
+            self.line((i + 1) as u32, wire_numbers::call_of(log[i]));
+        }
+    }
+
+    // The line of the result.
+    fn result(&mut self, e: CallEnding)
+        requires { self.old.at ≤ 2 ^ 60 }
+        ensures { Adds self.old (result_line e) self.new × (self.new.at ≤ self.old.at + 20) }
+    {
+        self.decimal(u32::from(e.number));
+        self.field(8, e.value);
+        self.put(b'\n');
+    }
+
+    // The start of the line `D` of n numbers.
+    fn data_start(&mut self, n: usize)
+        requires { self.old.at ≤ 2 ^ 60 }
+        ensures { Adds self.old (data_start n) self.new × (self.new.at ≤ self.old.at + 2) }
+    {
+        self.put(b'D');
+        if n != 0 {
+            self.put(b' ');
+        }
+    }
+
+    // The line `D`.
+    fn data<T: Hex>(&mut self, xs: &[T])
+        requires { self.old.at + T.DIGITS * length xs.now ≤ 2 ^ 60 }
+        ensures { Adds self.old (data_line (λ x. hex T.DIGITS (T.number x)) xs.now) self.new
+            × (self.new.at ≤ self.old.at + 3 + T.DIGITS * length xs.now) }
+    {
+        self.data_start(xs.len());
+        self.hex_each(xs);
+        self.put(b'\n');
+    }
+
+    fn shown(&mut self, s: Shown, words: &[u32], buf: &[u8])
+        requires { self.old.at + 8 * length words.now + 2 * length buf.now ≤ 2 ^ 60 }
+        ensures { Adds self.old (shown_text s words.now buf.now) self.new
+            × (self.new.at ≤ self.old.at + 3 + max (8 * length words.now) (2 * length buf.now)) }
+    {
+        match s {
+            Shown::Nothing => {}
+            Shown::Words => self.data(words),
+            Shown::Bytes => self.data(buf),
+        }
+    }
 }
 
 // The line of a transport call as a step answers with it.
@@ -214,83 +285,18 @@ pub fn put_made(out: &mut [u8], number: u32, c: TransportCall, bytes: [u8; 16]) 
     ensures { ((made : Call) → c ≡ numbers_of made → bytes ≡ padded (handed made)
         → Puts out.old 0 (call_line number made) out.new result) × (result ≤ 57) }
 {
-    put_numbers(out, 0, number, c, bytes)
-}
-
-// A line for each transport call of a log.
-fn put_calls(out: &mut [u8], log: &[u64]) -> usize
-    requires { length log.now < 2 ^ 32 }
-    ensures { Puts out.old 0 (call_lines 1 (map call_of log.now)) out.new result
-        × (result ≤ 57 * length log.now) }
-{
-    let mut p = 0;
-    let mut i = 0;
-    while i < log.len() {
-        p = put_line(out, p, (i + 1) as u32, wire_numbers::call_of(log[i]));
-        i += 1;
-    }
-    p
-}
-
-// The line of the result.
-fn put_result(out: &mut [u8], at: usize, e: CallEnding) -> usize
-    requires { at ≤ 2 ^ 60 }
-    ensures { Puts out.old at (result_line e) out.new result × (result ≤ at + 20) }
-{
-    let p = put_decimal(out, at, e.number as u32);
-    let p2 = put_field(out, p, 8, e.value);
-    put(out, p2, b'\n')
-}
-
-// The start of the line `D` of n numbers.
-fn put_data_start(out: &mut [u8], at: usize, n: usize) -> usize
-    requires { at ≤ 2 ^ 60 }
-    ensures { Puts out.old at (data_start n) out.new result × (result ≤ at + 2) }
-{
-    let p = put(out, at, b'D');
-    if n == 0 {
-        return p;
-    }
-    put(out, p, b' ')
-}
-
-fn put_bytes_line(out: &mut [u8], at: usize, bytes: &[u8]) -> usize
-    requires { at + 2 * length bytes.now ≤ 2 ^ 60 }
-    ensures { Puts out.old at (data_line hex_byte bytes.now) out.new result
-        × (result ≤ at + 3 + 2 * length bytes.now) }
-{
-    let p = put_data_start(out, at, bytes.len());
-    let p2 = put_hex_bytes(out, p, bytes);
-    put(out, p2, b'\n')
-}
-
-fn put_words_line(out: &mut [u8], at: usize, words: &[u32]) -> usize
-    requires { at + 8 * length words.now ≤ 2 ^ 60 }
-    ensures { Puts out.old at (data_line hex_word words.now) out.new result
-        × (result ≤ at + 3 + 8 * length words.now) }
-{
-    let p = put_data_start(out, at, words.len());
-    let p2 = put_hex_words(out, p, words);
-    put(out, p2, b'\n')
-}
-
-fn put_shown(out: &mut [u8], at: usize, s: Shown, words: &[u32], buf: &[u8]) -> usize
-    requires { at + 8 * length words.now + 2 * length buf.now ≤ 2 ^ 60 }
-    ensures { Puts out.old at (shown_text s words.now buf.now) out.new result
-        × (result ≤ at + 3 + max (8 * length words.now) (2 * length buf.now)) }
-{
-    match s {
-        Shown::Nothing => at,
-        Shown::Words => put_words_line(out, at, words),
-        Shown::Bytes => put_bytes_line(out, at, buf),
-    }
+    let mut lines = Lines { out, at: 0 };
+    lines.numbers(number, c, bytes);
+    lines.at
 }
 
 // The line of a result on its own.
 pub fn put_ending(out: &mut [u8], e: CallEnding) -> usize
     ensures { Puts out.old 0 (result_line e) out.new result × (result ≤ 20) }
 {
-    put_result(out, 0, e)
+    let mut lines = Lines { out, at: 0 };
+    lines.result(e);
+    lines.at
 }
 
 // What is printed for bytes that are no script.
@@ -301,7 +307,7 @@ pub fn put_malformed(out: &mut [u8]) -> usize
         number: 13,
         value: 0,
     };
-    put_result(out, 0, e)
+    put_ending(out, e)
 }
 
 // The listing of a run: the calls of its log, its ending and what is shown. Nothing is put for 2^32 numbers or more.
@@ -319,7 +325,9 @@ pub fn put_run(
     if 0xFFFFFFFF < log.len() + words.len() + buf.len() {
         return 0;
     }
-    let p = put_calls(out, log);
-    let p2 = put_result(out, p, e);
-    put_shown(out, p2, s, words, buf)
+    let mut lines = Lines { out, at: 0 };
+    lines.calls(log);
+    lines.result(e);
+    lines.shown(s, words, buf);
+    lines.at
 }

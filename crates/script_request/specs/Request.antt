@@ -1,6 +1,6 @@
 -- The calls of a script and their arguments (01: The result of one call, the table of calls; The script): from a call's number
 -- and the bytes behind it to the call and what it is lent.
-use Rattle.std.specs.Prelude.{ℕ, ◌%◌, ◌/◌, ◌-◌, Bool, true, false, ◌&&◌, List, [], ◌∷◌, eqb, leb, length, replicate, drop, get_or}
+use Rattle.std.specs.Prelude.{ℕ, ◌%◌, ◌/◌, ◌-◌, Bool, true, false, ◌&&◌, List, [], ◌∷◌, eqb, leb, length, replicate, drop, get_or, Option, Some, None}
 use Rattle.call_connect.specs.declared.ConnectCall.TheVariants as N
 use Rattle.call_memory.specs.declared.MemoryCall.TheVariants as M
 use Rattle.call_core.specs.declared.Function.{Function}
@@ -14,30 +14,29 @@ use Rattle.script_form.specs.BigEndian.{byte, half, word, row}
 use Rattle.script_request.specs.declared.Buffer.{Buffer}
 use Rattle.script_request.specs.declared.Buffer.TheVariants as B
 use Rattle.script_request.specs.declared.Request.{Request}
-use Rattle.script_request.specs.declared.Request.TheVariants.{Malformed, Asked}
 
--- malformed unless the test holds
-abbrev pub only : Bool → Request → Request
+-- none, which is malformed, unless the test holds
+abbrev pub only : Bool → Option Request → Option Request
 only true r = r
-only false r = Malformed
+only false r = None
 
 -- arguments of exactly `size` bytes
-abbrev pub fixed : List ℕ → ℕ → EngineCall → Buffer → Request
-fixed a size c b = only (eqb (length a) size) (Asked c b)
+abbrev pub fixed : List ℕ → ℕ → EngineCall → Buffer → Option Request
+fixed a size c b = only (eqb (length a) size) (Some (record { call = c; buffer = b }))
 
 -- the same for a call that is lent nothing
-abbrev pub plain : List ℕ → ℕ → EngineCall → Request
+abbrev pub plain : List ℕ → ℕ → EngineCall → Option Request
 plain a size c = fixed a size c B.Nothing
 
 -- `size` bytes, a multiple of 4, and the rest of the record: whole words, or bytes behind an address
-abbrev pub words_follow : List ℕ → ℕ → EngineCall → Request
-words_follow a size c = only (leb size (length a) && eqb (length a % 4) 0) (Asked c (B.GivenWords size))
+abbrev pub words_follow : List ℕ → ℕ → EngineCall → Option Request
+words_follow a size c = only (leb size (length a) && eqb (length a % 4) 0) (Some (record { call = c; buffer = B.GivenWords size }))
 
-abbrev pub bytes_follow : List ℕ → EngineCall → Request
-bytes_follow a c = only (leb 4 (length a)) (Asked c B.GivenBytes)
+abbrev pub bytes_follow : List ℕ → EngineCall → Option Request
+bytes_follow a c = only (leb 4 (length a)) (Some (record { call = c; buffer = B.GivenBytes }))
 
 -- call 11: at most 8,192 words
-abbrev pub read_words : List ℕ → ℕ → ℕ → Request
+abbrev pub read_words : List ℕ → ℕ → ℕ → Option Request
 read_words a addr count = only (leb count 8192) (fixed a 6 (E.Memory (M.ReadWords addr)) (B.Words count))
 
 -- the function of calls 23 and 25
@@ -52,9 +51,9 @@ call_frame_of a =
 
 -- The calls by number, each with the size of its arguments. Call 24's frame stands before its polls; in calls 32 and 35 the polls
 -- stand before the words.
-abbrev pub rows : List ℕ → List Request
+abbrev pub rows : List ℕ → List (Option Request)
 rows a =
-    Malformed ∷
+    None ∷
     -- 1 to 5
     plain a 4 (E.Connect (N.ConnectMultidrop (word a 0))) ∷
     plain a 0 (E.Connect N.ProbeSwd) ∷
@@ -99,8 +98,8 @@ rows a =
     plain a 4 (E.Nrf (F.Nrf54EraseAll (word a 0))) ∷
     words_follow a 8 (E.Nrf (F.Nrf54Program (word a 0) (word a 4))) ∷ []
 
-unfoldable pub request_of : ℕ → List ℕ → Request
-request_of number a = get_or (rows a) number Malformed
+unfoldable pub request_of : ℕ → List ℕ → Option Request
+request_of number a = get_or (rows a) number None
 
 -- the words and the bytes that a call finds: zeros, or the rest of its record
 unfoldable pub words_of : Buffer → List ℕ → List ℕ

@@ -24,72 +24,42 @@ pub enum Buffer {
     Frame,
 }
 
+// The call that a script asks for, and what it is lent.
 #[derive(Clone, Copy)]
-pub enum Request {
-    Malformed,
-    Asked(EngineCall, Buffer),
+pub struct Request {
+    pub call: EngineCall,
+    pub buffer: Buffer,
 }
 
 // Arguments of exactly `size` bytes.
-fn fixed(a: &[u8], size: usize, c: EngineCall, b: Buffer) -> Request
-    ensures { result ≡ Request·fixed a.now size c b }
+fn fixed(a: &[u8], size: usize, call: EngineCall, buffer: Buffer) -> Option<Request>
+    ensures { result ≡ Request·fixed a.now size call buffer }
 {
-    if a.len() == size {
-        return Request::Asked(c, b);
-    }
-    Request::Malformed
+    (a.len() == size).then_some(Request { call, buffer })
 }
 
-fn words_follow(a: &[u8], size: u8, c: EngineCall) -> Request
-    ensures { result ≡ words_follow a.now size c }
+// The same for a call of any group that is lent nothing.
+fn plain<C: Into<EngineCall>>(a: &[u8], size: usize, c: C) -> Option<Request>
+    ensures { (q : EngineCall) × C.converts c q × (result ≡ plain a.now size q) }
 {
-    if a.len() < (size as usize) {
-        return Request::Malformed;
-    }
-    if a.len() % 4 == 0 {
-        return Request::Asked(c, Buffer::GivenWords(size));
-    }
-    Request::Malformed
+    fixed(a, size, c.into(), Buffer::Nothing)
 }
 
-fn bytes_follow(a: &[u8], c: EngineCall) -> Request
-    ensures { result ≡ bytes_follow a.now c }
+// Words behind the first `size` bytes.
+fn words_follow(a: &[u8], size: u8, call: EngineCall) -> Option<Request>
+    ensures { result ≡ words_follow a.now size call }
 {
-    if a.len() < 4 {
-        return Request::Malformed;
-    }
-    Request::Asked(c, Buffer::GivenBytes)
+    let buffer = Buffer::GivenWords(size);
+    let whole = usize::from(size) <= a.len() && a.len() % 4 == 0;
+    whole.then_some(Request { call, buffer })
 }
 
-// Calls of each kind that are lent nothing.
-fn connect(a: &[u8], size: usize, c: ConnectCall) -> Request
-    ensures { result ≡ plain a.now size (EngineCall.Connect c) }
+// Bytes behind an address.
+fn bytes_follow(a: &[u8], call: EngineCall) -> Option<Request>
+    ensures { result ≡ bytes_follow a.now call }
 {
-    fixed(a, size, EngineCall::Connect(c), Buffer::Nothing)
-}
-
-fn memory(a: &[u8], size: usize, c: MemoryCall) -> Request
-    ensures { result ≡ plain a.now size (EngineCall.Memory c) }
-{
-    fixed(a, size, EngineCall::Memory(c), Buffer::Nothing)
-}
-
-fn core(a: &[u8], size: usize, c: CoreCall) -> Request
-    ensures { result ≡ plain a.now size (EngineCall.Core c) }
-{
-    fixed(a, size, EngineCall::Core(c), Buffer::Nothing)
-}
-
-fn fpb(a: &[u8], c: FpbCall) -> Request
-    ensures { result ≡ plain a.now 4 (EngineCall.Fpb c) }
-{
-    fixed(a, 4, EngineCall::Fpb(c), Buffer::Nothing)
-}
-
-fn nrf(a: &[u8], size: usize, c: NrfCall) -> Request
-    ensures { result ≡ plain a.now size (EngineCall.Nrf c) }
-{
-    fixed(a, size, EngineCall::Nrf(c), Buffer::Nothing)
+    let buffer = Buffer::GivenBytes;
+    (4 <= a.len()).then_some(Request { call, buffer })
 }
 
 // The function of calls 23 and 25.
@@ -124,52 +94,56 @@ fn call_frame_at(a: &[u8]) -> CallFrame
 }
 
 // Call 11.
-fn read_words(a: &[u8], addr: u32, count: u16) -> Request
+fn read_words(a: &[u8], addr: u32, count: u16) -> Option<Request>
     ensures { result ≡ read_words a.now addr count }
 {
     if 8192 < count {
-        return Request::Malformed;
+        return None;
     }
     let c = EngineCall::Memory(MemoryCall::ReadWords(addr));
     fixed(a, 6, c, Buffer::Words(count))
 }
 
+// Stays: 01's numbers, here and below, as a script has them (request_of); each stands beside the name of its call.
 // The request of a call's number and the bytes behind it: calls 1 to 5, or a later group's.
-pub fn request_of(number: u8, a: &[u8]) -> Request
+#[tactic(auto, unfolding(crate::specs::Request::request_of))]
+pub fn request_of(number: u8, a: &[u8]) -> Option<Request>
     ensures { result ≡ request_of number a.now }
 {
     match number {
-        0 => Request::Malformed,
-        1 => connect(a, 4, ConnectCall::ConnectMultidrop(word(a, 0))),
-        2 => connect(a, 0, ConnectCall::ProbeSwd),
-        3 => connect(a, 0, ConnectCall::ConnectSwd),
-        4 => connect(a, 4, ConnectCall::ResetPulse(word(a, 0))),
-        5 => connect(a, 4, ConnectCall::Reselect(word(a, 0))),
+        0 => None,
+        1 => plain(a, 4, ConnectCall::ConnectMultidrop(word(a, 0))),
+        2 => plain(a, 0, ConnectCall::ProbeSwd),
+        3 => plain(a, 0, ConnectCall::ConnectSwd),
+        4 => plain(a, 4, ConnectCall::ResetPulse(word(a, 0))),
+        5 => plain(a, 4, ConnectCall::Reselect(word(a, 0))),
         _ => ap_request(number, a),
     }
 }
 
 // Calls 6 to 8, or a later group's.
-fn ap_request(number: u8, a: &[u8]) -> Request
+#[tactic(auto, unfolding(crate::specs::Request::request_of))]
+fn ap_request(number: u8, a: &[u8]) -> Option<Request>
     requires { 6 ≤ number }
     ensures { result ≡ request_of number a.now }
 {
     match number {
-        6 => memory(a, 1, MemoryCall::SetApsel(byte(a, 0))),
-        7 => memory(a, 1, MemoryCall::ApRegRead(byte(a, 0))),
-        8 => memory(a, 5, MemoryCall::ApRegWrite(byte(a, 0), word(a, 1))),
+        6 => plain(a, 1, MemoryCall::SetApsel(byte(a, 0))),
+        7 => plain(a, 1, MemoryCall::ApRegRead(byte(a, 0))),
+        8 => plain(a, 5, MemoryCall::ApRegWrite(byte(a, 0), word(a, 1))),
         _ => memory_request(number, a),
     }
 }
 
 // Calls 9 to 14, or a later group's.
-fn memory_request(number: u8, a: &[u8]) -> Request
+#[tactic(auto, unfolding(crate::specs::Request::request_of))]
+fn memory_request(number: u8, a: &[u8]) -> Option<Request>
     requires { 9 ≤ number }
     ensures { result ≡ request_of number a.now }
 {
     match number {
-        9 => memory(a, 4, MemoryCall::ReadWord(word(a, 0))),
-        10 => memory(a, 8, MemoryCall::WriteWord(word(a, 0), word(a, 4))),
+        9 => plain(a, 4, MemoryCall::ReadWord(word(a, 0))),
+        10 => plain(a, 8, MemoryCall::WriteWord(word(a, 0), word(a, 4))),
         11 => read_words(a, word(a, 0), half(a, 4)),
         12 => words_follow(a, 4, EngineCall::Memory(MemoryCall::WriteWords(word(a, 0)))),
         13 => fixed(
@@ -184,69 +158,73 @@ fn memory_request(number: u8, a: &[u8]) -> Request
 }
 
 // Calls 15 to 21, or a later group's.
-fn core_request(number: u8, a: &[u8]) -> Request
+#[tactic(auto, unfolding(crate::specs::Request::request_of))]
+fn core_request(number: u8, a: &[u8]) -> Option<Request>
     requires { 15 ≤ number }
     ensures { result ≡ request_of number a.now }
 {
     match number {
-        15 => core(a, 0, CoreCall::DebugEnable),
-        16 => core(a, 0, CoreCall::Halt),
-        17 => core(a, 0, CoreCall::Resume),
-        18 => core(a, 0, CoreCall::Step),
-        19 => core(a, 0, CoreCall::IsHalted),
-        20 => core(a, 1, CoreCall::ReadCoreReg(byte(a, 0))),
-        21 => core(a, 5, CoreCall::WriteCoreReg(byte(a, 0), word(a, 1))),
+        15 => plain(a, 0, CoreCall::DebugEnable),
+        16 => plain(a, 0, CoreCall::Halt),
+        17 => plain(a, 0, CoreCall::Resume),
+        18 => plain(a, 0, CoreCall::Step),
+        19 => plain(a, 0, CoreCall::IsHalted),
+        20 => plain(a, 1, CoreCall::ReadCoreReg(byte(a, 0))),
+        21 => plain(a, 5, CoreCall::WriteCoreReg(byte(a, 0), word(a, 1))),
         _ => function_request(number, a),
     }
 }
 
 // Calls 22 to 25, or a later group's.
-fn function_request(number: u8, a: &[u8]) -> Request
+#[tactic(auto, unfolding(crate::specs::Request::request_of))]
+fn function_request(number: u8, a: &[u8]) -> Option<Request>
     requires { 22 ≤ number }
     ensures { result ≡ request_of number a.now }
 {
     match number {
-        22 => core(a, 2, CoreCall::RomFuncLookup(byte(a, 0), byte(a, 1))),
+        22 => plain(a, 2, CoreCall::RomFuncLookup(byte(a, 0), byte(a, 1))),
         23 => fixed(
             a,
             28,
             EngineCall::Core(CoreCall::StartFunction(function_at(a))),
             Buffer::Frame,
         ),
-        24 => core(
+        24 => plain(
             a,
             36,
             CoreCall::FinishFunction(call_frame_at(a), word(a, 32)),
         ),
-        25 => core(a, 32, CoreCall::CallFunction(function_at(a), word(a, 28))),
+        25 => plain(a, 32, CoreCall::CallFunction(function_at(a), word(a, 28))),
         _ => fpb_request(number, a),
     }
 }
 
 // Calls 26 to 28, or a later group's.
-fn fpb_request(number: u8, a: &[u8]) -> Request
+#[tactic(auto, unfolding(crate::specs::Request::request_of))]
+fn fpb_request(number: u8, a: &[u8]) -> Option<Request>
     requires { 26 ≤ number }
     ensures { result ≡ request_of number a.now }
 {
     match number {
-        26 => fpb(a, FpbCall::HwBreakpointSet(word(a, 0))),
-        27 => fpb(a, FpbCall::HwBreakpointClear(word(a, 0))),
-        28 => fpb(a, FpbCall::HwBreakpointAt(word(a, 0))),
+        26 => plain(a, 4, FpbCall::HwBreakpointSet(word(a, 0))),
+        27 => plain(a, 4, FpbCall::HwBreakpointClear(word(a, 0))),
+        28 => plain(a, 4, FpbCall::HwBreakpointAt(word(a, 0))),
         _ => nrf52_request(number, a),
     }
 }
 
 // Calls 29 to 32, or a later group's; w and polls are the first two words.
-fn nrf52_request(number: u8, a: &[u8]) -> Request
+#[tactic(auto, unfolding(crate::specs::Request::request_of))]
+fn nrf52_request(number: u8, a: &[u8]) -> Option<Request>
     requires { 29 ≤ number }
     ensures { result ≡ request_of number a.now }
 {
     let w = word(a, 0);
     let polls = word(a, 4);
     match number {
-        29 => nrf(a, 0, NrfCall::Nrf52ApprotectStatus),
-        30 => nrf(a, 4, NrfCall::Nrf52EraseAll(w)),
-        31 => nrf(a, 8, NrfCall::Nrf52ErasePage { addr: w, polls }),
+        29 => plain(a, 0, NrfCall::Nrf52ApprotectStatus),
+        30 => plain(a, 4, NrfCall::Nrf52EraseAll(w)),
+        31 => plain(a, 8, NrfCall::Nrf52ErasePage { addr: w, polls }),
         32 => words_follow(
             a,
             8,
@@ -257,20 +235,21 @@ fn nrf52_request(number: u8, a: &[u8]) -> Request
 }
 
 // Calls 33 to 35.
-fn nrf54_request(number: u8, a: &[u8]) -> Request
+#[tactic(auto, unfolding(crate::specs::Request::request_of))]
+fn nrf54_request(number: u8, a: &[u8]) -> Option<Request>
     requires { 33 ≤ number }
     ensures { result ≡ request_of number a.now }
 {
     let w = word(a, 0);
     let polls = word(a, 4);
     match number {
-        33 => nrf(a, 0, NrfCall::Nrf54ApprotectStatus),
-        34 => nrf(a, 4, NrfCall::Nrf54EraseAll(w)),
+        33 => plain(a, 0, NrfCall::Nrf54ApprotectStatus),
+        34 => plain(a, 4, NrfCall::Nrf54EraseAll(w)),
         35 => words_follow(
             a,
             8,
             EngineCall::Nrf(NrfCall::Nrf54Program { addr: w, polls }),
         ),
-        _ => Request::Malformed,
+        _ => None,
     }
 }

@@ -1,5 +1,5 @@
 -- How a session stands, and what it answers: a reply that reports the tree of a call under a budget, and a refusal.
-use Rattle.std.specs.Prelude.{ℕ, ◌-◌, Bool, cond, List, [], ◌≡◌, eqb, get_or}
+use Rattle.std.specs.Prelude.{ℕ, ◌-◌, Bool, cond, List, [], ◌≡◌, eqb, get_or, Option, None, Some}
 use Rattle.wire.specs.Bytes.{handed, padded}
 use Rattle.wire.specs.Wire.{Wire, memory_of}
 use Rattle.wire_numbers.specs.Results.{ending_of}
@@ -17,11 +17,9 @@ use Rattle.session_rules.specs.declared.Refusal.{Refusal}
 use Rattle.session_calls.specs.Session.{Standing, Lent, Result, refused, ran}
 use Rattle.session.specs.declared.Session.{Session}
 use Rattle.session.specs.declared.SessionEnding.{SessionEnding}
-use Rattle.session.specs.declared.SessionNext.{SessionNext}
-use Rattle.session.specs.declared.SessionNext.TheVariants as N
+use Rattle.engine.specs.declared.NextStep.{NextStep}
+use Rattle.engine.specs.declared.NextStep.TheVariants as N
 use Rattle.session.specs.declared.Reply.{Reply}
-use Rattle.session.specs.declared.FrameGiven.{FrameGiven}
-use Rattle.session.specs.declared.FrameGiven.TheVariants as G
 
 -- the session as it stands between calls; one whose call is still under way is closed
 abbrev pub standing : Session → Standing
@@ -36,7 +34,7 @@ reported (refused x) made = record { number = refusal_number x; value = 0; made 
 reported (ran e) made = numbered (ending_of e) made
 
 -- the reply of a call that stands so, after so many transport calls: the ending, or the one that is due and the bytes of it
-abbrev pub next_by : ℕ → Now → SessionNext
+abbrev pub next_by : ℕ → Now → NextStep SessionEnding
 next_by made (over e) = N.Finish (reported (ran e) made)
 next_by made (due c) = N.Make (numbers_of c)
 
@@ -50,8 +48,8 @@ frame_at room =
     let w : ℕ → ℕ = λ i. get_or room i 0 in
     record { r0 = w 0; r1 = w 1; r2 = w 2; r3 = w 3; sp = w 4; lr = w 5; pc = w 6; xpsr = w 7 }
 
-abbrev pub frame_given : SessionEnding → List ℕ → FrameGiven
-frame_given e room = cond (eqb e.number 0) (G.Frame (frame_at room)) G.Nothing
+abbrev pub frame_given : SessionEnding → List ℕ → Option CallFrame
+frame_given e room = cond (eqb e.number 0) (Some (frame_at room)) None
 
 -- The reply reports the tree w of a call that may make `limit` transport calls, `more` of them still; the session s stands at it, over
 -- what is lent. The list is the one that was given.

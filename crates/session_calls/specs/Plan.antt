@@ -3,7 +3,7 @@
 -- are the engine's own are plans of one job.
 use Rattle.std.specs.Prelude.{ℕ, suc}
 use Rattle.wire.specs.Wire.{Wire, Memory, done, ask, tell}
-use Rattle.wire.specs.declared.Outcome.{Outcome}
+use Rattle.wire.specs.Outcomes.{Outcome}
 use Rattle.call.specs.Job.{Job, exec}
 
 pub data Plan : Type 0 where

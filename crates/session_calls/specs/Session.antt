@@ -1,16 +1,15 @@
 -- One call of a session, whatever is answered (01: "The session"; believed). session_phase/specs/Phase.antt has when it is open.
-use Rattle.std.specs.Prelude.{ℕ, Bool, false, ◌||◌, List, [], ◌∷◌, length}
+use Rattle.std.specs.Prelude.{ℕ, Bool, false, ◌||◌, List, [], ◌∷◌, length, Ok, Err}
 use Rattle.wire.specs.Wire.{Wire, memory_of, done, ask, tell, play, Played, Ending, succeeds}
 use Rattle.wire.specs.declared.Call.{Call}
-use Rattle.wire.specs.declared.Answer.{Answer}
+use Rattle.wire.specs.Outcomes.{Answer}
 use Rattle.wire.specs.declared.Remembered.{Remembered}
 use Rattle.call.specs.Change.{fresh}
 use Rattle.engine_calls.specs.Calls.{job_of}
 use Rattle.session_phase.specs.Phase.{loss, remembered_for, is_spent, opens_after}
 use Rattle.session_rules.specs.Refusals.{refusal}
 use Rattle.session_rules.specs.declared.Refusal.{Refusal}
-use Rattle.session_rules.specs.declared.Check.{Check}
-use Rattle.session_rules.specs.declared.Check.TheVariants.{Pass, Refuse}
+use Rattle.session_rules.specs.Refusals.{Check}
 use Rattle.session_calls.specs.Calls.{engine_call, facts_of, kind_of, is_connect}
 use Rattle.session_calls.specs.Plan.{Plan, alone, plan_tree}
 use Rattle.session_calls.specs.declared.SessionCall.{SessionCall}
@@ -87,8 +86,8 @@ abbrev pub unchanged : Standing → Refusal → Lent → Called
 unchanged s x l = record { calls = []; ending = refused x; lent = l; after = s }
 
 abbrev pub checked : Check → Standing → SessionCall → Lent → List Answer → Called
-checked (Refuse x) s c l answers = unchanged s x l
-checked Pass s c l answers = settled c l (lost_in (session_tree s c l) answers) (play (session_tree s c l) answers)
+checked (Err x) s c l answers = unchanged s x l
+checked (Ok tt) s c l answers = settled c l (lost_in (session_tree s c l) answers) (play (session_tree s c l) answers)
 
 abbrev pub check_of : Standing → SessionCall → Lent → Check
 check_of s c l = refusal s.is_open (facts_of c) (length l.buf)

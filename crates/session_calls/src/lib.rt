@@ -32,17 +32,19 @@ pub struct Order {
 }
 
 // The engine's call that a session's call is.
-pub fn engine_call(c: SessionCall) -> EngineCall
-    ensures { result ≡ engine_call c }
-{
-    match c {
-        SessionCall::ConnectSwd => EngineCall::Connect(ConnectCall::ConnectSwd),
-        SessionCall::ReadWord(addr) => EngineCall::Memory(MemoryCall::ReadWord(addr)),
-        SessionCall::WriteWord(addr, word) => EngineCall::Memory(MemoryCall::WriteWord(addr, word)),
-        SessionCall::ReadMem(addr) => EngineCall::Memory(MemoryCall::ReadMem(addr)),
-        SessionCall::WriteMem(addr) => EngineCall::Memory(MemoryCall::WriteMem(addr)),
-        SessionCall::Core(q) => EngineCall::Core(q),
-        SessionCall::Fpb(q) => EngineCall::Fpb(q),
+impl From<SessionCall> for EngineCall {
+    ghost from_gives = { λ c q. q ≡ engine_call c };
+
+    fn from(c: SessionCall) -> EngineCall {
+        match c {
+            SessionCall::ConnectSwd => ConnectCall::ConnectSwd.into(),
+            SessionCall::ReadWord(addr) => MemoryCall::ReadWord(addr).into(),
+            SessionCall::WriteWord(addr, word) => MemoryCall::WriteWord(addr, word).into(),
+            SessionCall::ReadMem(addr) => MemoryCall::ReadMem(addr).into(),
+            SessionCall::WriteMem(addr) => MemoryCall::WriteMem(addr).into(),
+            SessionCall::Core(q) => q.into(),
+            SessionCall::Fpb(q) => q.into(),
+        }
     }
 }
 
@@ -63,9 +65,9 @@ fn row(align: Align, addr: u32, spans: bool) -> Facts
 {
     Facts {
         kind: Kind::Plain,
-        align: align,
-        addr: addr,
-        spans: spans,
+        align,
+        addr,
+        spans,
     }
 }
 

@@ -8,6 +8,8 @@ use session::{Session, SessionAnswer};
 use session_calls::Order;
 use wire::Answer;
 
+// Stays: room, list and buf beside each other: so the C interface (bazkondur_start, bazkondur_step) and README's loop lend them.
+// Stays: start_by and step_by one after the other: a closure for the one call that differs would be as long as what they share.
 pub fn start_by(
     s: Session,
     o: Order,
@@ -22,7 +24,7 @@ pub fn start_by(
     let reply = session_lent::start(&mut mine, o, room, list, buf);
     SessionAnswer {
         session: mine,
-        reply: reply,
+        reply,
     }
 }
 
@@ -40,6 +42,6 @@ pub fn step_by(
     let reply = session_lent::step(&mut mine, a, room, list, buf);
     SessionAnswer {
         session: mine,
-        reply: reply,
+        reply,
     }
 }

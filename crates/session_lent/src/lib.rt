@@ -10,6 +10,8 @@ use session::{Reply, Session};
 use session_calls::Order;
 use wire::Answer;
 
+// Stays: room, list and buf beside each other: so the C interface (bazkondur_start, bazkondur_step) and README's loop lend them.
+// Stays: start and step one after the other, which README's loop calls by these names.
 // Start and step for a caller who keeps the session: it is taken out whole, stepped by value, and stored back.
 pub fn start(
     s: &mut Session,
@@ -21,8 +23,7 @@ pub fn start(
     ensures { Started s.old o (lending room.old list.old buf.old)
         s.new result (lending room.new list.new buf.new) }
 {
-    let now = *s;
-    let r = session_steps::session_start(now, o, room, list, buf);
+    let r = session_steps::session_start(*s, o, room, list, buf);
     *s = r.session;
     r.reply
 }
@@ -37,8 +38,7 @@ pub fn step(
     ensures { Stepped s.old a (lending room.old list.old buf.old)
         s.new result (lending room.new list.new buf.new) }
 {
-    let now = *s;
-    let r = session_steps::session_step(now, a, room, list, buf);
+    let r = session_steps::session_step(*s, a, room, list, buf);
     *s = r.session;
     r.reply
 }
@@ -47,6 +47,5 @@ pub fn step(
 pub fn is_open_now(s: &mut Session) -> bool
     ensures { (result ≡ (standing s.old).is_open) × (s.new ≡ s.old) }
 {
-    let now = *s;
-    session::open(now)
+    session::open(*s)
 }

@@ -2,12 +2,12 @@
 #![tactic(auto)]
 
 ghost use Rattle.std.specs.Prelude.{List, [], ◌∷◌, ◌++◌, ◌≡◌};
-ghost use Rattle.wire.specs.declared.Answer.{Answer};
+ghost use Rattle.wire.specs.Outcomes.{Answer};
 ghost use Rattle.wire_numbers.specs.declared.TransportCall.{TransportCall};
 ghost use Rattle.session_calls.specs.Session.{Lent, lending};
 ghost use Rattle.session_calls.specs.declared.Order.{Order};
 ghost use Rattle.session.specs.declared.Session.{Session};
-ghost use Rattle.session.specs.declared.SessionNext.TheVariants.{Make};
+ghost use Rattle.engine.specs.declared.NextStep.TheVariants.{Make};
 ghost use Rattle.session.specs.declared.Reply.{Reply};
 ghost use Rattle.session_trail.specs.Trail.{Trail};
 
@@ -15,6 +15,8 @@ use session::{Session, SessionAnswer};
 use session_calls::Order;
 use wire::Answer;
 
+// Stays: room, list and buf beside each other: so the C interface (bazkondur_start, bazkondur_step) and README's loop lend them.
+// Stays: begin and further apart: their clauses differ, and docs/READING.md names both.
 // A start begins a trail.
 pub fn begin(
     s: Session,

@@ -1,9 +1,9 @@
 -- When a session is open (01: "The session"; believed). It closes after a call in which a transport call failed other than by WAIT or
 -- FAULT, the ignored ABORT aside; after Spent; and after a connect that failed. Nothing else closes it.
-use Rattle.std.specs.Prelude.{ℕ, Bool, true, false, not, ◌&&◌, ◌||◌, cond, eqb}
+use Rattle.std.specs.Prelude.{ℕ, Bool, true, false, not, ◌&&◌, ◌||◌, cond, eqb, Ok, Err}
 use Rattle.wire.specs.Wire.{Wire, done, ask, tell, Ending, ended, spent, succeeds}
-use Rattle.wire.specs.declared.Answer.{Answer}
-use Rattle.wire.specs.declared.Answer.TheVariants.{Good, SwdError, NotSupported, Other}
+use Rattle.wire.specs.Outcomes.{Answer}
+use Rattle.wire.specs.declared.DapError.TheVariants.{SwdError, NotSupported, Other}
 use Rattle.wire.specs.declared.Call.{Call}
 use Rattle.wire.specs.declared.Remembered.{Remembered}
 use Rattle.call.specs.Change.{forgotten}
@@ -14,10 +14,10 @@ use Rattle.session_phase.specs.declared.Phase.TheVariants as P
 
 -- an error, but for a SwdError with an ack that is let pass
 abbrev pub error_but : (ℕ → Bool) → Answer → Bool
-error_but pass (Good v) = false
-error_but pass (SwdError ack) = not (pass ack)
-error_but pass NotSupported = true
-error_but pass Other = true
+error_but pass (Ok v) = false
+error_but pass (Err (SwdError ack)) = not (pass ack)
+error_but pass (Err NotSupported) = true
+error_but pass (Err Other) = true
 
 -- an answer that is neither Ok nor WAIT nor FAULT: nobody knows what became of the transport call
 abbrev pub loss : Answer → Bool

@@ -4,7 +4,7 @@
 ghost use Rattle.std.specs.Prelude.{◌&&◌, ◌||◌, ◌≡◌, ◌-◌, eqb};
 ghost use Rattle.session_phase.specs.Phase.{loss, remembered_for, is_open, phase_due, phase_ended, phase_left};
 
-use wire::{Answer, Remembered};
+use wire::{Answer, DapError, Remembered};
 
 // What start and end of a call go by: a connect decides alone whether the session is open.
 #[derive(Clone, Copy)]
@@ -26,11 +26,7 @@ pub enum Phase {
 pub fn is_open(p: Phase) -> bool
     ensures { result ≡ is_open p }
 {
-    match p {
-        Phase::Closed => false,
-        Phase::Open => true,
-        Phase::Running { .. } => false,
-    }
+    matches!(p, Phase::Open)
 }
 
 // Each connect starts with SELECT and CSW unknown.
@@ -41,7 +37,7 @@ pub fn remembered_for(kind: Kind, r: Remembered) -> Remembered
         Kind::Connect => Remembered {
             select: 0xFFFFFFFF,
             csw: false,
-            apsel: r.apsel,
+            ..r
         },
         Kind::Plain => r,
     }
@@ -52,15 +48,8 @@ pub fn is_loss(a: Answer) -> bool
     ensures { result ≡ loss a }
 {
     match a {
-        Answer::Good(_) => false,
-        Answer::SwdError(ack) => {
-            if ack == 2 {
-                return false;
-            }
-            ack != 4
-        }
-        Answer::NotSupported => true,
-        Answer::Other => true,
+        Ok(_) | Err(DapError::SwdError(2 | 4)) => false,
+        Err(_) => true,
     }
 }
 
@@ -68,15 +57,7 @@ pub fn is_loss(a: Answer) -> bool
 pub fn has_lost(lost: bool, awaited: bool, a: Answer) -> bool
     ensures { result ≡ (lost || (awaited && loss a)) }
 {
-    if lost {
-        return true;
-    }
-    if awaited {
-        return is_loss(a);
-    }
-    // the answer of an ABORT is ignored
-    let lost_abort = false;
-    lost_abort
+    lost || (awaited && is_loss(a))
 }
 
 // Whether nothing is left of a budget.
@@ -90,20 +71,14 @@ pub fn is_spent(left: u32) -> bool
 pub fn left_after(left: u32) -> u32
     ensures { result ≡ left - 1 }
 {
-    if left == 0 {
-        return 0;
-    }
-    left - 1
+    left.saturating_sub(1)
 }
 
 // How many transport calls were made of a budget.
 pub fn made_of(budget: u32, left: u32) -> u32
     ensures { result ≡ budget - left }
 {
-    if budget < left {
-        return 0;
-    }
-    budget - left
+    budget.saturating_sub(left)
 }
 
 // A call with a transport call due runs on, or it is broken off where its budget does not allow that one: Spent.
@@ -111,12 +86,9 @@ pub fn phase_due(kind: Kind, lost: bool, left: u32) -> Phase
     ensures { result ≡ phase_due kind lost left }
 {
     if is_spent(left) {
-        let broken_off = Phase::Closed;
-        return broken_off;
-    }
-    Phase::Running {
-        kind: kind,
-        lost: lost,
+        Phase::Closed
+    } else {
+        Phase::Running { kind, lost }
     }
 }
 
@@ -124,17 +96,11 @@ pub fn phase_due(kind: Kind, lost: bool, left: u32) -> Phase
 pub fn phase_ended(kind: Kind, lost: bool, ok: bool) -> Phase
     ensures { result ≡ phase_ended kind lost ok }
 {
-    if lost {
-        return Phase::Closed;
-    }
-    match kind {
-        Kind::Connect => {
-            if ok {
-                return Phase::Open;
-            }
-            Phase::Closed
-        }
-        Kind::Plain => Phase::Open,
+    let fails = matches!(kind, Kind::Connect) && !ok;
+    if lost || fails {
+        Phase::Closed
+    } else {
+        Phase::Open
     }
 }
 
@@ -143,8 +109,7 @@ pub fn phase_left(p: Phase) -> Phase
     ensures { result ≡ phase_left p }
 {
     match p {
-        Phase::Closed => Phase::Closed,
         Phase::Open => Phase::Open,
-        Phase::Running { .. } => Phase::Closed,
+        Phase::Closed | Phase::Running { .. } => Phase::Closed,
     }
 }

@@ -1,8 +1,8 @@
 // What a session refuses before any transport call is made: one ordered function over the facts of a call, in numbers.
 #![tactic(auto)]
 
-ghost use Rattle.std.specs.Prelude.{not, ◌≡◌, ◌+◌, leb};
-ghost use Rattle.session_rules.specs.Refusals.{admitted, aligned, ranged, refusal, refusal_number};
+ghost use Rattle.std.specs.Prelude.{◌≡◌, Ok};
+ghost use Rattle.session_rules.specs.Refusals.{admitted, aligned, ranged, unless, refusal, refusal_number};
 
 use session_phase::Kind;
 
@@ -31,21 +31,16 @@ pub enum Refusal {
     Range,
 }
 
-// Whether a call may start, or why it is refused.
-#[derive(Clone, Copy)]
-pub enum Check {
-    Pass,
-    Refuse(Refusal),
-}
-
 // 01's number of a refusal.
-pub fn refusal_number(x: Refusal) -> u8
-    ensures { result ≡ refusal_number x }
-{
-    match x {
-        Refusal::NoSession => 10,
-        Refusal::Align => 9,
-        Refusal::Range => 8,
+impl From<Refusal> for u8 {
+    ghost from_gives = { λ x n. n ≡ refusal_number x };
+
+    fn from(x: Refusal) -> u8 {
+        match x {
+            Refusal::NoSession => 10,
+            Refusal::Align => 9,
+            Refusal::Range => 8,
+        }
     }
 }
 
@@ -53,13 +48,7 @@ pub fn refusal_number(x: Refusal) -> u8
 fn is_admitted(now_open: bool, kind: Kind) -> bool
     ensures { result ≡ admitted now_open kind }
 {
-    if now_open {
-        return true;
-    }
-    match kind {
-        Kind::Connect => true,
-        Kind::Plain => false,
-    }
+    now_open || matches!(kind, Kind::Connect)
 }
 
 // Whether an address lies as it has to.
@@ -76,43 +65,25 @@ fn is_aligned(align: Align, addr: u32) -> bool
 // As many addresses as a target has: 2^32.
 const ADDRESSES: usize = 0x100000000;
 
-// Whether so many bytes from an address on end below 2^32.
-fn ends_below(addr: u32, bytes: usize) -> bool
-    ensures { result ≡ not (leb 0x100000000 (addr + bytes)) }
-{
-    if ADDRESSES <= bytes {
-        return false;
-    }
-    if ADDRESSES <= (addr as usize) + bytes {
-        return false;
-    }
-    true
-}
-
 // A buffer that lies from an address on ends below 2^32.
 fn is_ranged(spans: bool, addr: u32, bytes: usize) -> bool
     ensures { result ≡ ranged spans addr bytes }
 {
-    if spans {
-        return ends_below(addr, bytes);
-    }
-    true
+    !spans || bytes < ADDRESSES - addr as usize
+}
+
+// What a call has to be, or why it is refused.
+fn require(good: bool, x: Refusal) -> Result<(), Refusal>
+    ensures { result ≡ unless good x (Ok tt) }
+{
+    if good { Ok(()) } else { Err(x) }
 }
 
 // The checks in 01's order: 10, 9, 8. `bytes`: as many as the caller's buffer has.
-pub fn check_call(now_open: bool, f: Facts, bytes: usize) -> Check
+pub fn check_call(now_open: bool, f: Facts, bytes: usize) -> Result<(), Refusal>
     ensures { result ≡ refusal now_open f bytes }
 {
-    let kind = f.kind;
-    let align = f.align;
-    if !is_admitted(now_open, kind) {
-        return Check::Refuse(Refusal::NoSession);
-    }
-    if !is_aligned(align, f.addr) {
-        return Check::Refuse(Refusal::Align);
-    }
-    if !is_ranged(f.spans, f.addr, bytes) {
-        return Check::Refuse(Refusal::Range);
-    }
-    Check::Pass
+    require(is_admitted(now_open, f.kind), Refusal::NoSession)?;
+    require(is_aligned(f.align, f.addr), Refusal::Align)?;
+    require(is_ranged(f.spans, f.addr, bytes), Refusal::Range)
 }

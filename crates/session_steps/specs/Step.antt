@@ -1,15 +1,14 @@
 -- What a session answers to a start and to a step, and how it stands then: for every session, order, answer and everything lent.
-use Rattle.std.specs.Prelude.{◌-◌, Bool, false, ◌&&◌, ◌||◌}
+use Rattle.std.specs.Prelude.{◌-◌, Bool, false, ◌&&◌, ◌||◌, Ok, Err}
 use Rattle.wire.specs.Wire.{Wire, follow}
-use Rattle.wire.specs.declared.Answer.{Answer}
+use Rattle.wire.specs.Outcomes.{Answer}
 use Rattle.engine.specs.Laws.State.{state_tree}
 use Rattle.engine.specs.Step.{awaited}
 use Rattle.session_phase.specs.Phase.{loss}
 use Rattle.session_phase.specs.declared.Phase.{Phase}
 use Rattle.session_phase.specs.declared.Phase.TheVariants as P
 use Rattle.session_rules.specs.declared.Refusal.TheVariants as R
-use Rattle.session_rules.specs.declared.Check.{Check}
-use Rattle.session_rules.specs.declared.Check.TheVariants.{Pass, Refuse}
+use Rattle.session_rules.specs.Refusals.{Check}
 use Rattle.session_calls.specs.Calls.{kind_of}
 use Rattle.session_calls.specs.Session.{Lent, session_tree, check_of}
 use Rattle.session_calls.specs.declared.Order.{Order}
@@ -19,8 +18,8 @@ use Rattle.session.specs.declared.Reply.{Reply}
 
 -- what a start answers: session, order and what is lent, then session, reply and what was lent afterwards
 abbrev pub StartedBy : Check → Session → Order → Lent → Session → Reply → Lent → Type 0
-StartedBy (Refuse x) s₀ o l₀ s r l = Refused x (rested s₀) l₀ s r l
-StartedBy Pass s₀ o l₀ s r l =
+StartedBy (Err x) s₀ o l₀ s r l = Refused x (rested s₀) l₀ s r l
+StartedBy (Ok tt) s₀ o l₀ s r l =
     Answers (kind_of o.call) false o.budget o.budget (session_tree (standing s₀) o.call l₀) l₀.list s r l
 
 abbrev pub Started : Session → Order → Lent → Session → Reply → Lent → Type 0

@@ -1,11 +1,11 @@
 -- Loops over target and line are the history of their calls, so demand 3 holds of them.
 -- The idea: the answers of a loop are the line's to the transport calls of `called` over these answers, and so is `talk`, call by call.
-use Rattle.std.specs.Prelude.{ℕ, zero, suc, ◌≤◌, true, cond, List, [], ◌∷◌, map, ◌≡◌, refl, length, drop}
+use Rattle.std.specs.Prelude.{ℕ, zero, suc, ◌≤◌, true, cond, List, [], ◌∷◌, map, ◌≡◌, refl, length, drop, Ok, Err}
 use Rattle.std.proofs.Common.{sym, ap, subst, ◌∙◌, arith}
 use Rattle.wire.specs.Wire.{Wire, done, ask, tell, play, Ending, ended, spent}
 use Rattle.wire.specs.declared.Call.{Call}
 use Rattle.wire.specs.declared.Call.TheVariants as C
-use Rattle.wire.specs.declared.Answer.{Answer}
+use Rattle.wire.specs.Outcomes.{Answer}
 use Rattle.wire_numbers.specs.Numbers.{numbers_of}
 use Rattle.wire_memap.specs.Laws.Doing.{remembered_of}
 use Rattle.target.specs.Deliver.{Delivery, answer_of, deliver}
@@ -16,12 +16,11 @@ use Rattle.target.specs.declared.Act.{Act}
 use Rattle.target.specs.declared.Act.TheVariants.{Deliver, Wait, Lose}
 use Rattle.target_line.specs.Talk.{Talk, talk, silent, heard_first, act_now, acts_then}
 use Rattle.session_phase.specs.Phase.{is_open}
-use Rattle.session_rules.specs.declared.Check.{Check}
-use Rattle.session_rules.specs.declared.Check.TheVariants.{Pass, Refuse}
+use Rattle.session_rules.specs.Refusals.{Check}
 use Rattle.session_calls.specs.Session.{Standing, closed, Result, refused, ran, Called, check_of, called, checked, session_tree}
 use Rattle.session.specs.Answer.{standing, reported}
 use Rattle.session.specs.declared.Session.{Session}
-use Rattle.session.specs.declared.SessionNext.TheVariants as N
+use Rattle.engine.specs.declared.NextStep.TheVariants as N
 use Rattle.session.specs.declared.Reply.{Reply}
 use Rattle.agreement.specs.History.{Item, Moment, first, Made, heard_if, made, history, last_of}
 use Rattle.agreement.specs.Demand3.{AllTyped, Agree}
@@ -120,8 +119,8 @@ heard_over : (k : Check) (x : Moment) (i : Item) (answers : List Answer) (seen :
     → FitsIn (checked k x.standing i.call i.lent answers).ending (length answers) i.budget
     → seen ≡ map asks (checked k x.standing i.call i.lent answers).calls → answers ≡ (line_over seen acts x.target x.mem).answers
     → heard_if k x i acts ≡ line_over seen acts x.target x.mem
-heard_over (Refuse e) x i answers seen acts b h a = rw h (sym (over_none acts x.target x.mem))
-heard_over Pass x i answers seen acts b h a =
+heard_over (Err e) x i answers seen acts b h a = rw h (sym (over_none acts x.target x.mem))
+heard_over (Ok tt) x i answers seen acts b h a =
     rw h (talk_over (session_tree x.standing i.call i.lent) answers i.budget acts x.target x.mem b
     (subst (λ (l : List Reply). answers ≡ (line_over l acts x.target x.mem).answers) h a))
 

@@ -2,18 +2,17 @@
 -- answer is refused and changes nothing.
 -- The idea: the session stands at the tree of the call, followed along the answers so far (`Holds`); a start begins there and a step
 -- goes one answer further, and what `called` says is read off that tree.
-use Rattle.std.specs.Prelude.{ℕ, ◌+◌, ◌-◌, ◌≤◌, ◌<◌, Bool, List, [], ◌∷◌, ◌++◌, map, ◌≡◌, refl, length}
+use Rattle.std.specs.Prelude.{ℕ, ◌+◌, ◌-◌, ◌≤◌, ◌<◌, Bool, List, [], ◌∷◌, ◌++◌, map, ◌≡◌, refl, length, Ok, Err}
 use Rattle.std.proofs.lemmas.List.{map-append, length-map}
 use Rattle.std.proofs.Common.{sym, ap, subst, ◌∙◌, arith, length-append}
 use Rattle.std.proofs.Math.Nat.{sub-zero}
 use Rattle.wire.specs.Wire.{Wire, play, Played}
-use Rattle.wire.specs.declared.Answer.{Answer}
+use Rattle.wire.specs.Outcomes.{Answer}
 use Rattle.wire_numbers.specs.declared.TransportCall.{TransportCall}
 use Rattle.session_phase.specs.declared.Kind.{Kind}
 use Rattle.session_rules.specs.declared.Refusal.{Refusal}
 use Rattle.session_rules.specs.declared.Refusal.TheVariants as R
-use Rattle.session_rules.specs.declared.Check.{Check}
-use Rattle.session_rules.specs.declared.Check.TheVariants.{Pass, Refuse}
+use Rattle.session_rules.specs.Refusals.{Check}
 use Rattle.session_calls.specs.Calls.{kind_of}
 use Rattle.session_calls.specs.Session.{Lent, lost_in, session_tree, ran, settled, checked, check_of, called}
 use Rattle.session_calls.specs.declared.Order.{Order}
@@ -22,7 +21,7 @@ use Rattle.session.specs.Answer.{standing, rested, next_by, Answers, Refused}
 use Rattle.session_steps.specs.Step.{StartedBy, Stepped}
 use Rattle.session.specs.declared.Session.{Session}
 use Rattle.session.specs.declared.SessionEnding.{SessionEnding}
-use Rattle.session.specs.declared.SessionNext.TheVariants as N
+use Rattle.engine.specs.declared.NextStep.TheVariants as N
 use Rattle.session.specs.declared.Reply.{Reply}
 use Rattle.session_trail.specs.Trail.{Trail, begun, more, late, asks, over, AsCalled}
 use Rattle.session_trail.specs.Laws.Along.{along, due_in_of, along_more, play_along, no_calls, calls_more, none_lost, lost_more}
@@ -53,12 +52,12 @@ module _ (s₀ : Session) (o : Order) (l₀ : Lent) where
     same : Refused x (rested s₀) l₀ s r l
 
   abbrev Holds : Check → List Answer → List Reply → Session → Reply → Lent → Type 0
-  Holds (Refuse x) answers seen s r l = Halts x answers seen s r l
-  Holds Pass answers seen s r l = Walks answers seen s r l
+  Holds (Err x) answers seen s r l = Halts x answers seen s r l
+  Holds (Ok tt) answers seen s r l = Walks answers seen s r l
 
   begins : (k : Check) (s : Session) (r : Reply) (l : Lent) → StartedBy k s₀ o l₀ s r l → Holds k [] [] s r l
-  begins (Refuse x) s r l h = record { none = refl; calls = refl; same = h }
-  begins Pass s r l h = record {
+  begins (Err x) s r l h = record { none = refl; calls = refl; same = h }
+  begins (Ok tt) s r l h = record {
     here = rw (none_lost tree, sub-zero o.budget) h;
     within = omega arith;
     calls = ap (map asks) (sym (no_calls tree));
@@ -68,10 +67,10 @@ module _ (s₀ : Session) (o : Order) (l₀ : Lent) where
   goes : (k : Check) (answers : List Answer) (seen : List Reply) (s : Session) (r : Reply) (l : Lent) (x : TransportCall) (a : Answer)
       (s' : Session) (r' : Reply) (l' : Lent)
       → Holds k answers seen s r l → r.next ≡ N.Make x → Stepped s a l s' r' l' → Holds k (answers ++ a ∷ []) (seen ++ r ∷ []) s' r' l'
-  goes (Refuse y) answers seen s r l x a s' r' l' h n st =
+  goes (Err y) answers seen s r l x a s' r' l' h n st =
       let z : N.Make x ≡ N.Finish _ = sym n ∙ h.same.next in
       let y : ◌≡◌ {A = ℕ} 0 1 = cc in absurd (omega arith)
-  goes Pass answers seen s r l x a s' r' l' h n st =
+  goes (Ok tt) answers seen s r l x a s' r' l' h n st =
       let d = is_due kind (lost_in tree answers) o.budget (o.budget - length answers) (along tree answers) l₀.list s r l h.here x n in
       let some : 0 < o.budget - length answers = d.some in
       let less : o.budget - length answers - 1 ≡ o.budget - (length answers + 1) = omega arith in
@@ -86,8 +85,8 @@ module _ (s₀ : Session) (o : Order) (l₀ : Lent) where
 
   rests : (k : Check) (answers : List Answer) (seen : List Reply) (s : Session) (r : Reply) (l : Lent) (e : SessionEnding)
       → Holds k answers seen s r l → r.next ≡ N.Finish e → Resting s.phase
-  rests (Refuse x) answers seen s r l e h n = subst (λ (z : Session). Resting z.phase) (sym h.same.session) (left_rests s₀.phase)
-  rests Pass answers seen s r l e h n =
+  rests (Err x) answers seen s r l e h n = subst (λ (z : Session). Resting z.phase) (sym h.same.session) (left_rests s₀.phase)
+  rests (Ok tt) answers seen s r l e h n =
       ended_rests kind (lost_in tree answers) o.budget (o.budget - length answers) (along tree answers) l₀.list s r l h.here e n
 
   -- a step of a session that rests leaves it as it is
@@ -108,7 +107,7 @@ module _ (s₀ : Session) (o : Order) (l₀ : Lent) where
   comes : (k : Check) (answers : List Answer) (seen : List Reply) (s : Session) (r : Reply) (l : Lent) → Holds k answers seen s r l
       → AsCalled (checked k (standing s₀) o.call l₀ answers) (λ (a : Answer). checked k (standing s₀) o.call l₀ (answers ++ a ∷ []))
       o.budget answers seen s r l
-  comes (Refuse x) answers seen s r l h = record {
+  comes (Err x) answers seen s r l h = record {
     stands = ap standing h.same.session ∙ ap (λ (b : Bool). record { is_open = b; remembered = (standing s₀).remembered }) (left_open s₀.phase);
     lent = h.same.lent;
     calls = h.calls;
@@ -116,7 +115,7 @@ module _ (s₀ : Session) (o : Order) (l₀ : Lent) where
     says = rw h.none (over (omega arith) (λ z. let y : ◌≡◌ {A = ℕ} 0 1 = cc in absurd (omega arith))
         (reply_is r _ _ h.same.next h.same.bytes));
   }
-  comes Pass answers seen s r l h =
+  comes (Ok tt) answers seen s r l h =
       let w = along tree answers in let n = o.budget - length answers in let lost = lost_in tree answers in
       let made : o.budget - n ≡ length answers = omega (arith, h.within) in record {
         stands = stands_in kind lost o.budget n w l₀.list s r l h.here

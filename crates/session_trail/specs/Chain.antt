@@ -1,6 +1,6 @@
 -- A caller's calls, one after the other, each by a loop of its own (believed).
 use Rattle.std.specs.Prelude.{List, [], ◌∷◌}
-use Rattle.wire.specs.declared.Answer.{Answer}
+use Rattle.wire.specs.Outcomes.{Answer}
 use Rattle.session_calls.specs.Session.{Lent}
 use Rattle.session_calls.specs.declared.Order.{Order}
 use Rattle.session.specs.declared.Session.{Session}

@@ -12,8 +12,8 @@ use Rattle.session_calls.specs.Session.{ran}
 use Rattle.session.specs.Answer.{standing, reported}
 use Rattle.session.specs.declared.Session.{Session}
 use Rattle.session.specs.declared.SessionEnding.{SessionEnding}
-use Rattle.session.specs.declared.SessionNext.{SessionNext}
-use Rattle.session.specs.declared.SessionNext.TheVariants as N
+use Rattle.engine.specs.declared.NextStep.{NextStep}
+use Rattle.engine.specs.declared.NextStep.TheVariants as N
 use Rattle.session.specs.declared.Reply.{Reply}
 use Rattle.agreement.specs.History.{Item, Moment, Made, last_of}
 use Rattle.agreement.specs.Demand3.{InStep}
@@ -21,7 +21,7 @@ use Rattle.session_trail.specs.Trail.{asks}
 use Rattle.session_trail.specs.Chain.{Shown, Loop}
 
 -- the transport call that a reply hands to the line: a transfer by its numbers; of the others none reaches a register
-abbrev pub call_at : SessionNext → Call
+abbrev pub call_at : NextStep SessionEnding → Call
 call_at (N.Make x) = cond (eqb x.kind 0x54) (C.Transfer x.request x.word) C.Connect
 call_at (N.Finish e) = C.Connect
 
@@ -40,11 +40,11 @@ pub data Loops : Session → Target → List ℕ → List Act → List Shown →
       → Loops s t mem acts (x ∷ xs) s'' t'' mem''
 
 -- a loop that was left with a transport call due counts as one whose budget ended there: 11, Spent
-abbrev pub budget_at : SessionNext → (budget count : ℕ) → ℕ
+abbrev pub budget_at : NextStep SessionEnding → (budget count : ℕ) → ℕ
 budget_at (N.Make x) budget count = count
 budget_at (N.Finish e) budget count = budget
 
-abbrev pub result_at : SessionNext → ℕ → SessionEnding
+abbrev pub result_at : NextStep SessionEnding → ℕ → SessionEnding
 result_at (N.Make x) count = reported (ran spent) count
 result_at (N.Finish e) count = e
 

@@ -4,7 +4,7 @@ use Rattle.std.specs.Prelude.{ℕ, ◌≤◌, ◌<◌, List, [], ◌∷◌, ◌+
 use Rattle.wire.specs.Bytes.{handed, padded}
 use Rattle.wire.specs.Wire.{spent}
 use Rattle.wire.specs.declared.Call.{Call}
-use Rattle.wire.specs.declared.Answer.{Answer}
+use Rattle.wire.specs.Outcomes.{Answer}
 use Rattle.wire_numbers.specs.Numbers.{numbers_of}
 use Rattle.wire_numbers.specs.declared.TransportCall.{TransportCall}
 use Rattle.session_calls.specs.Session.{Lent, Result, ran, Called}
@@ -13,7 +13,7 @@ use Rattle.session.specs.Answer.{standing, reported}
 use Rattle.session_steps.specs.Step.{Started, Stepped}
 use Rattle.session.specs.declared.Session.{Session}
 use Rattle.session.specs.declared.SessionEnding.{SessionEnding}
-use Rattle.session.specs.declared.SessionNext.TheVariants as N
+use Rattle.engine.specs.declared.NextStep.TheVariants as N
 use Rattle.session.specs.declared.Reply.{Reply}
 
 -- The order o to the session s₀, with l₀ lent: the answers given so far, the replies that they answered, and session, reply and what is

@@ -1,6 +1,6 @@
 -- The debug port's registers ABORT, CTRL/STAT, DPIDR, RDBUFF and SELECT (01: "The model target"; ADIv5.2, chapter B2; readings 20 to
 -- 22 and 24). `owed` counts the reads of CTRL/STAT that do not show the acks yet; it matters only while both requests stand.
-use Rattle.std.specs.Prelude.{Bool, true, false, ◌&&◌, cond, ℕ, ◌+◌, ◌-◌, ◌/◌, ◌%◌, eqb}
+use Rattle.std.specs.Prelude.{Bool, false, ◌&&◌, cond, ℕ, ◌+◌, ◌-◌, ◌/◌, ◌%◌, eqb}
 use Rattle.target.specs.declared.Target.{Target}
 use Rattle.target.specs.declared.Done.{Done}
 use Rattle.target.specs.declared.DpRegister.{DpRegister}

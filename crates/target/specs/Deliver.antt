@@ -1,10 +1,10 @@
 -- What a target makes of a transport call that reaches it (01: "The model target"; ADIv5.2, chapters B1 and B4; readings 18 and 24).
 -- A reply is a value or FAULT, so that a target never answers WAIT. A call that is no transfer reaches no register and is answered Ok 0.
-use Rattle.std.specs.Prelude.{Bool, true, false, not, ◌&&◌, cond, List, ℕ}
+use Rattle.std.specs.Prelude.{Bool, true, false, not, ◌&&◌, cond, List, ℕ, Ok, Err}
 use Rattle.wire.specs.declared.Call.{Call}
 use Rattle.wire.specs.declared.Call.TheVariants as C
-use Rattle.wire.specs.declared.Answer.{Answer}
-use Rattle.wire.specs.declared.Answer.TheVariants.{Good, SwdError}
+use Rattle.wire.specs.Outcomes.{Answer}
+use Rattle.wire.specs.declared.DapError.TheVariants.{SwdError}
 use Rattle.target.specs.declared.Target.{Target}
 use Rattle.target.specs.declared.Done.{Done}
 use Rattle.target.specs.declared.Delivered.{Delivered}
@@ -22,8 +22,8 @@ pub data Reply : Type 0 where
 
 -- FAULT is ack 4
 abbrev pub answer_of : Reply → Answer
-answer_of (ok v) = Good v
-answer_of fault = SwdError 4
+answer_of (ok v) = Ok v
+answer_of fault = Err (SwdError 4)
 
 -- the reply to a transport call, and the target and memory after it
 pub record Delivery : Type 0 where
@@ -85,4 +85,4 @@ given d = record { target = d.target; answer = answer_of d.reply }
 
 -- and of an access that was done
 abbrev pub good : Done → Delivered
-good d = record { target = d.target; answer = Good d.value }
+good d = record { target = d.target; answer = Ok d.value }

@@ -1,5 +1,3 @@
-pub mod Decode
-pub mod Memory
 pub mod MemAp
 pub mod Deliver
 pub mod WellFormed

@@ -1,9 +1,9 @@
 -- The line between engine and target (01: "The model target", last rule; reading 26): it delivers a transport call; or answers WAIT,
 -- ack 2, with the call undelivered; or loses it, delivered or not, and the engine gets an error other than ack 2 and 4.
-use Rattle.std.specs.Prelude.{Bool, true, false, cond, List, ℕ, ◌/◌, ◌%◌, eqb, ltb}
+use Rattle.std.specs.Prelude.{cond, List, ℕ, ◌/◌, ◌%◌, eqb, ltb, Err}
 use Rattle.wire.specs.declared.Call.{Call}
-use Rattle.wire.specs.declared.Answer.{Answer}
-use Rattle.wire.specs.declared.Answer.TheVariants as W
+use Rattle.wire.specs.Outcomes.{Answer}
+use Rattle.wire.specs.declared.DapError.TheVariants as W
 use Rattle.target.specs.declared.Target.{Target}
 use Rattle.target.specs.declared.Delivered.{Delivered}
 use Rattle.target.specs.declared.Loss.{Loss}
@@ -26,13 +26,13 @@ abbrev pub ack_of : ℕ → ℕ
 ack_of k = cond (eqb k 2) 7 (cond (eqb k 4) 7 k)
 
 abbrev pub error_of : Loss → Answer
-error_of (Ack k) = W.SwdError (ack_of k)
-error_of NotSupported = W.NotSupported
-error_of Other = W.Other
+error_of (Ack k) = Err (W.SwdError (ack_of k))
+error_of NotSupported = (Err W.NotSupported)
+error_of Other = (Err W.Other)
 
 abbrev pub line : Target → List ℕ → Call → Act → Heard
 line t m c Deliver = heard (answer_of (deliver t m c).reply) (deliver t m c)
-line t m c Wait = record { answer = W.SwdError 2; target = t; mem = m }
+line t m c Wait = record { answer = Err (W.SwdError 2); target = t; mem = m }
 line t m c (Lose delivered e) = cond delivered (heard (error_of e) (deliver t m c)) (record { answer = error_of e; target = t; mem = m })
 
 -- the struct that the code returns of it; the memory is what the lent slice holds

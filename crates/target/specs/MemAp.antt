@@ -1,6 +1,6 @@
 -- The MEM-AP's registers CSW, TAR and DRW (01: "The model target"; 02, c; ADIv5.2, chapter C2; readings 17, 19, 24, 25, 31 and C1). A
 -- read is posted: it answers the old read buffer and loads the new value.
-use Rattle.std.specs.Prelude.{Bool, true, cond, List, ℕ, ◌+◌, ◌*◌, ◌/◌, ◌%◌, ◌^◌, min, eqb}
+use Rattle.std.specs.Prelude.{true, cond, List, ℕ, ◌+◌, ◌*◌, ◌/◌, ◌%◌, ◌^◌, min, eqb}
 use Rattle.target.specs.declared.Target.{Target}
 use Rattle.target.specs.declared.Done.{Done}
 use Rattle.target.specs.declared.ApRegister.{ApRegister}

@@ -1,14 +1,15 @@
-// The model target of ADIv5.2, a debug port and a MEM-AP over lent memory: its types, its memory, and the register that a request
-// reaches. `target_dp` and `target_ap` have the accesses to registers, `target_line` a transport call to the target and over the line.
+// The model target of ADIv5.2, a debug port and a MEM-AP over lent memory: its types, its memory, the register that a request
+// reaches, and what the line does as numbers. `target_dp` and `target_ap` have the accesses to registers, `target_line` a transport call to the target and over the line.
 #![tactic(auto)]
 
-ghost use Rattle.std.specs.Prelude.{◌≡◌, Bool, ◌+◌, ◌-◌, ◌*◌, ◌/◌, ◌%◌, ◌≤◌, ◌<◌, length};
+ghost use Rattle.std.specs.Prelude.{◌≡◌, ◌+◌, ◌≤◌, Err, length};
 ghost use Rattle.target.specs.Memory.{byte_at, in_memory, load, store, loaded, stored};
 ghost use Rattle.target.specs.Decode.{bank_of, register_of};
 ghost use Rattle.target.specs.DebugPort.{done};
-ghost use Rattle.target.specs.Laws.Decode.{register_at};
+ghost use Rattle.target.specs.Deliver.{good};
+ghost use Rattle.target.specs.Line.{error_of, loss_of, act_of};
 
-use wire::Answer;
+use wire::{Answer, DapError};
 
 // DPIDR, d, the increment's width and the memory's base are fixed for a target, the rest starts arbitrary. `owed` counts the
 // reads of CTRL/STAT that do not show the acks yet; d is what a power-up owes. Of TAR the low `width` bits are incremented, 10 to 32.
@@ -74,20 +75,6 @@ pub struct Delivered {
     pub answer: Answer,
 }
 
-// The byte at an address, or that memory has none there.
-#[derive(Clone, Copy)]
-pub enum Byte {
-    Value(u8),
-    Absent,
-}
-
-// The word at an address, or that memory does not have all of it.
-#[derive(Clone, Copy)]
-pub enum Word {
-    Value(u32),
-    Absent,
-}
-
 // The error of a lost transport call.
 #[derive(Clone, Copy)]
 pub enum Loss {
@@ -104,41 +91,20 @@ pub enum Act {
     Lose { delivered: bool, error: Loss },
 }
 
-// A byte as a word.
-fn wide(x: u8) -> u32
-    ensures { (result ≡ x) × (result < 256) }
-{
-    x as u32
-}
-
-// The byte of memory at an address.
-pub fn byte_at(t: Target, mem: &[u8], addr: u32) -> Byte
+// Stays: load_word and store_word as functions over target and memory, which docs/DECISIONS.md names so; the others go with them.
+// The byte of memory at an address, if it has one there.
+pub fn byte_at(t: Target, mem: &[u8], addr: u32) -> Option<u8>
     ensures { result ≡ byte_at t mem.now addr }
 {
-    let base = t.base;
-    if base <= addr {
-        let i = (addr - base) as usize;
-        if i < mem.len() {
-            return Byte::Value(mem[i]);
-        }
-        return Byte::Absent;
-    }
-    Byte::Absent
+    let i = addr.checked_sub(t.base)?;
+    mem.get(i as usize).copied()
 }
 
 // Whether memory has all four bytes from an address on.
 fn in_memory(t: Target, at: u32, mem: &[u8]) -> bool
     ensures { result ≡ in_memory t mem.now at }
 {
-    let base = t.base;
-    if base <= at {
-        let i = (at - base) as usize;
-        if i + 4 <= mem.len() {
-            return true;
-        }
-        return false;
-    }
-    false
+    t.base <= at && (at - t.base) as usize + 4 <= mem.len()
 }
 
 // The word at an address that is in memory.
@@ -147,11 +113,7 @@ fn word_at(t: Target, at: u32, mem: &[u8]) -> u32
     ensures { result ≡ load t mem.now at }
 {
     let i = (at - t.base) as usize;
-    let a = wide(mem[i]);
-    let b = wide(mem[i + 1]);
-    let c = wide(mem[i + 2]);
-    let d = wide(mem[i + 3]);
-    a + 256 * b + 65536 * c + 16777216 * d
+    u32::from_le_bytes([mem[i], mem[i + 1], mem[i + 2], mem[i + 3]])
 }
 
 // Stores a word at such an address.
@@ -160,73 +122,39 @@ fn put_word(t: Target, at: u32, word: u32, mem: &mut [u8])
     ensures { mem.new ≡ store t mem.old at word }
 {
     let i = (at - t.base) as usize;
-    mem[i] = (word % 256) as u8;
-    mem[i + 1] = (word / 256 % 256) as u8;
-    mem[i + 2] = (word / 256 / 256 % 256) as u8;
-    mem[i + 3] = (word / 256 / 256 / 256 % 256) as u8;
+    mem[i..i + 4].copy_from_slice(&word.to_le_bytes());
 }
 
-// The word of memory at an address.
-pub fn load_word(t: Target, at: u32, mem: &[u8]) -> Word
+// The word of memory at an address, if it has all of it.
+pub fn load_word(t: Target, at: u32, mem: &[u8]) -> Option<u32>
     ensures { result ≡ loaded t mem.now at }
 {
     if in_memory(t, at, mem) {
-        return Word::Value(word_at(t, at, mem));
+        Some(word_at(t, at, mem))
+    } else {
+        None
     }
-    Word::Absent
 }
 
 // Stores a word where memory has all of it, and says whether it has.
 pub fn store_word(t: Target, at: u32, word: u32, mem: &mut [u8]) -> bool
     ensures { (result ≡ in_memory t mem.old at) × (mem.new ≡ stored t mem.old at word) }
 {
-    if in_memory(t, at, &*mem) {
+    let has = in_memory(t, at, &*mem);
+    if has {
         put_word(t, at, word, mem);
-        return true;
     }
-    false
+    has
 }
 
 // The bank that SELECT names for a request: DPBANKSEL, or APSEL and APBANKSEL as one number.
 fn bank(request: u8, select: u32) -> u32
-    ensures { (result ≡ bank_of request select) × (result < 4096) }
+    ensures { result ≡ bank_of request select }
 {
     if request % 2 == 0 {
-        return select % 16;
-    }
-    select / 0x1000000 * 16 + select / 16 % 16
-}
-
-// The register at a place: the first hexadecimal digit is the request, the other three are the bank.
-fn register_at(place: u32) -> Register
-    requires { place < 65536 }
-    ensures { result ≡ register_at place }
-{
-    match place {
-        0x0000..=0x0FFF => Register::Dp(DpRegister::AbortWrite),
-        0x1000 => Register::Ap(ApRegister::CswWrite),
-        0x1001..=0x1FFF => Register::Ap(ApRegister::OtherWrite),
-        0x2000..=0x2FFF => Register::Dp(DpRegister::DpidrRead),
-        0x3000 => Register::Ap(ApRegister::CswRead),
-        0x3001..=0x3FFF => Register::Ap(ApRegister::OtherRead),
-        0x4000 => Register::Dp(DpRegister::CtrlStatWrite),
-        0x4001..=0x4FFF => Register::Dp(DpRegister::OtherWrite),
-        0x5000 => Register::Ap(ApRegister::TarWrite),
-        0x5001..=0x5FFF => Register::Ap(ApRegister::OtherWrite),
-        0x6000 => Register::Dp(DpRegister::CtrlStatRead),
-        0x6001..=0x6FFF => Register::Dp(DpRegister::OtherRead),
-        0x7000 => Register::Ap(ApRegister::TarRead),
-        0x7001..=0x7FFF => Register::Ap(ApRegister::OtherRead),
-        0x8000..=0x8FFF => Register::Dp(DpRegister::SelectWrite),
-        0x9000..=0x9FFF => Register::Ap(ApRegister::OtherWrite),
-        0xA000..=0xAFFF => Register::Dp(DpRegister::OtherRead),
-        0xB000..=0xBFFF => Register::Ap(ApRegister::OtherRead),
-        0xC000..=0xCFFF => Register::Dp(DpRegister::OtherWrite),
-        0xD000 => Register::Ap(ApRegister::DrwWrite),
-        0xD001..=0xDFFF => Register::Ap(ApRegister::OtherWrite),
-        0xE000..=0xEFFF => Register::Dp(DpRegister::RdbuffRead),
-        0xF000 => Register::Ap(ApRegister::DrwRead),
-        _ => Register::Ap(ApRegister::OtherRead),
+        select % 16
+    } else {
+        select / 0x1000000 * 16 + select / 16 % 16
     }
 }
 
@@ -234,16 +162,95 @@ fn register_at(place: u32) -> Register
 pub fn decode(request: u8, select: u32) -> Register
     ensures { result ≡ register_of request select }
 {
-    let b = bank(request, select);
-    register_at(wide(request % 16) * 0x1000 + b)
+    match (request % 16, bank(request, select)) {
+        (0x0, _) => Register::Dp(DpRegister::AbortWrite),
+        (0x1, 0) => Register::Ap(ApRegister::CswWrite),
+        (0x1, 1..) => Register::Ap(ApRegister::OtherWrite),
+        (0x2, _) => Register::Dp(DpRegister::DpidrRead),
+        (0x3, 0) => Register::Ap(ApRegister::CswRead),
+        (0x3, 1..) => Register::Ap(ApRegister::OtherRead),
+        (0x4, 0) => Register::Dp(DpRegister::CtrlStatWrite),
+        (0x4, 1..) => Register::Dp(DpRegister::OtherWrite),
+        (0x5, 0) => Register::Ap(ApRegister::TarWrite),
+        (0x5, 1..) => Register::Ap(ApRegister::OtherWrite),
+        (0x6, 0) => Register::Dp(DpRegister::CtrlStatRead),
+        (0x6, 1..) => Register::Dp(DpRegister::OtherRead),
+        (0x7, 0) => Register::Ap(ApRegister::TarRead),
+        (0x7, 1..) => Register::Ap(ApRegister::OtherRead),
+        (0x8, _) => Register::Dp(DpRegister::SelectWrite),
+        (0x9, _) => Register::Ap(ApRegister::OtherWrite),
+        (0xA, _) => Register::Dp(DpRegister::OtherRead),
+        (0xB, _) => Register::Ap(ApRegister::OtherRead),
+        (0xC, _) => Register::Dp(DpRegister::OtherWrite),
+        (0xD, 0) => Register::Ap(ApRegister::DrwWrite),
+        (0xD, 1..) => Register::Ap(ApRegister::OtherWrite),
+        (0xE, _) => Register::Dp(DpRegister::RdbuffRead),
+        (0xF.., 0) => Register::Ap(ApRegister::DrwRead),
+        (0xF.., 1..) => Register::Ap(ApRegister::OtherRead),
+    }
 }
 
-// An access that was done.
-pub fn did(value: u32, target: Target) -> Done
-    ensures { result ≡ done value target }
-{
-    Done {
-        value: value,
-        target: target,
+impl Done {
+    // An access that was done.
+    pub fn new(value: u32, target: Target) -> Done
+        ensures { result ≡ done value target }
+    {
+        Done { value, target }
+    }
+}
+
+// A done access as the engine hears of it.
+impl From<Done> for Delivered {
+    ghost from_gives = { λ d x. x ≡ good d };
+
+    fn from(d: Done) -> Delivered {
+        Delivered {
+            target: d.target,
+            answer: Ok(d.value),
+        }
+    }
+}
+
+// What the engine gets of a loss. Acks 2 and 4 would be WAIT and FAULT, so that no loss shows them: they stand for 7, what
+// a line that nobody drives reads as.
+impl From<Loss> for DapError {
+    ghost from_gives = { λ e a. Err a ≡ error_of e };
+
+    fn from(e: Loss) -> DapError {
+        match e {
+            Loss::Ack(2 | 4) => DapError::SwdError(7),
+            Loss::Ack(k) => DapError::SwdError(k),
+            Loss::NotSupported => DapError::NotSupported,
+            Loss::Other => DapError::Other,
+        }
+    }
+}
+
+// The error of a lost transport call by its number.
+impl From<u32> for Loss {
+    ghost from_gives = { λ k e. e ≡ loss_of k };
+
+    fn from(k: u32) -> Loss {
+        match k {
+            0..=255 => Loss::Ack(k as u8),
+            256 => Loss::NotSupported,
+            _ => Loss::Other,
+        }
+    }
+}
+
+// What the line does, by its number.
+impl From<u32> for Act {
+    ghost from_gives = { λ x a. a ≡ act_of x };
+
+    fn from(x: u32) -> Act {
+        match x % 4 {
+            0 => Act::Deliver,
+            1 => Act::Wait,
+            k => Act::Lose {
+                delivered: k == 2,
+                error: (x / 4).into(),
+            },
+        }
     }
 }

@@ -3,126 +3,115 @@
 // calls made, the result number and value, and SELECT, CSW, APSEL after; for each step the transport call or the ending.
 #![tactic(auto)]
 
-use engine::{NextStep, State, StepAnswer};
+use engine::NextStep;
 use engine_calls::EngineCall;
 use engine_run::Ran;
 use test_calls::{decimal, digits, hex, number, write};
-use wire::{Answer, Remembered};
-use wire_numbers::TransportCall;
+use wire::Remembered;
+use wire_numbers::{CallEnding, TransportCall};
 
-fn wide(x: u8) -> u32 {
-    x as u32
-}
-
-// The calls that are tested, with the argument that varies: call 22 looks for "IF", call 23 has a function of four arguments, calls 32
-// and 35 poll nine times.
-fn call_of(number: u8, a: u32) -> EngineCall {
-    let args = match number {
-        22 => [0x49, 0x46, 0, 0, 0, 0, 0, 0],
-        23 => [0x101, 1, 2, 3, 4, 0x20001000, 0x20000000, 0],
-        _ => [a, 9, 0, 0, 0, 0, 0, 0],
-    };
-    test_calls::call_of(number, &args, &[0; 8])
+// A call that is tested, with the argument that varies.
+#[derive(Clone, Copy)]
+struct Tested {
+    number: u8,
+    a: u32,
 }
 
 fn byte(x: u8) {
-    digits(wide(x), 2);
+    digits(x, 2);
 }
 
-fn show_ending(number: u8, value: u32) {
-    decimal(wide(number));
-    hex(value, 8);
+fn show_ending(e: CallEnding) {
+    decimal(e.number);
+    hex(e.value, 8);
 }
 
 fn show_memory(r: Remembered) {
     hex(r.select, 8);
-    if r.csw {
-        write(b" csw");
-    } else {
-        write(b" -");
-    }
-    decimal(wide(r.apsel));
+    write(if r.csw { b" csw" } else { b" -" });
+    decimal(r.apsel);
     write(b";");
 }
 
 fn show(x: Ran) {
     decimal(x.count);
-    show_ending(x.ending.number, x.ending.value);
-    let r = x.remembered;
-    show_memory(r);
+    show_ending(x.ending);
+    show_memory(x.remembered);
 }
 
-// One call over a budget of answers; what it leaves.
-fn run(
-    r: Remembered,
-    number: u8,
-    a: u32,
-    budget: u32,
-    answers: &[u64],
-    frame: &mut [u32; 8],
-    bytes: &mut [u8],
-) -> Remembered {
-    let mut log = [0u64; 1];
-    let mut words = [0u32; 4];
-    let x = engine_run::run(
-        r,
-        call_of(number, a),
-        budget,
-        answers,
-        frame,
-        &mut words,
-        bytes,
-        &mut log,
-    );
-    show(x);
-    x.remembered
-}
+impl Tested {
+    // Stays: 01's numbers, as test_calls::call_of takes them.
+    // Call 22 looks for "IF", call 23 has a function of four arguments, calls 32 and 35 poll nine times.
+    fn call(self) -> EngineCall {
+        let args = match self.number {
+            22 => [0x49, 0x46, 0, 0, 0, 0, 0, 0],
+            23 => [0x101, 1, 2, 3, 4, 0x20001000, 0x20000000, 0],
+            _ => [self.a, 9, 0, 0, 0, 0, 0, 0],
+        };
+        test_calls::call_of(self.number, &args, &[0; 8])
+    }
 
-// The same where all answers are Ok and every read answers `value`.
-fn call(
-    r: Remembered,
-    number: u8,
-    a: u32,
-    budget: u32,
-    value: u64,
-    bytes: &mut [u8],
-) -> Remembered {
-    let answers = [value; 64];
-    let mut frame = [0u32; 8];
-    run(r, number, a, budget, &answers, &mut frame, bytes)
+    // One run over a budget of answers; what it leaves.
+    fn run(
+        self,
+        r: Remembered,
+        budget: u32,
+        answers: &[u64],
+        frame: &mut [u32; 8],
+        bytes: &mut [u8],
+    ) -> Remembered {
+        let mut log = [0u64; 1];
+        let mut words = [0u32; 4];
+        let x = engine_run::run(
+            r,
+            self.call(),
+            budget,
+            answers,
+            frame,
+            &mut words,
+            bytes,
+            &mut log,
+        );
+        show(x);
+        x.remembered
+    }
+
+    // The same where all answers are Ok and every read answers `value`.
+    fn run_with(self, r: Remembered, budget: u32, value: u64, bytes: &mut [u8]) -> Remembered {
+        self.run(r, budget, &[value; 64], &mut [0; 8], bytes)
+    }
 }
 
 // The same on a new engine with enough budget.
 fn once(number: u8, a: u32, value: u64, bytes: &mut [u8]) {
-    call(engine::new(), number, a, 64, value, bytes);
-}
-
-fn read_word(r: Remembered, budget: u32) -> Remembered {
-    let mut none = [0u8; 0];
-    call(r, 9, 0x20000000, budget, 7, &mut none)
+    Tested { number, a }.run_with(engine::new(), 64, value, bytes);
 }
 
 fn budgets() {
     write(b"Spent after 0, 1 and 2 answers:");
-    let r = read_word(engine::new(), 0);
-    let r = read_word(r, 1);
-    read_word(r, 2);
+    let read_word = Tested {
+        number: 9,
+        a: 0x20000000,
+    };
+    let mut r = engine::new();
+    for budget in 0..3 {
+        r = read_word.run_with(r, budget, 7, &mut []);
+    }
 }
 
 fn ranges() {
-    let mut none = [0u8; 0];
     let mut some = [9u8; 8];
     write(b"\nRange, and no bytes:");
     once(13, 0xFFFFFFF8, 7, &mut some);
     once(14, 0xFFFFFFF9, 7, &mut some);
-    once(13, 0xFFFFFFFF, 7, &mut none);
+    once(13, 0xFFFFFFFF, 7, &mut []);
 }
 
 fn top_word() {
     let mut some = [9u8; 8];
     write(b"\nthe top word but one byte:");
     once(13, 0xFFFFFFF7, 0x44332211, &mut some);
-    number(wide(some[7]));
+    number(some[7]);
 }
 
 // 01's cases that are not marked P: these three.
@@ -131,57 +120,37 @@ fn four_bytes() {
     write(b"\n4 bytes at 0xFFFFFFFC, read and written:");
     once(13, 0xFFFFFFFC, 0x44332211, &mut four);
     once(14, 0xFFFFFFFC, 0x44332211, &mut four);
-    number(wide(four[0]));
+    number(four[0]);
 }
 
 fn three_bytes() {
     let mut three = [9u8; 3];
     write(b"\n3 bytes there:");
     once(13, 0xFFFFFFFC, 0x44332211, &mut three);
-    byte(three[0]);
-    byte(three[1]);
-    byte(three[2]);
+    for x in three {
+        byte(x);
+    }
 }
 
 fn programs() {
-    let mut none = [0u8; 0];
     write(b"\nprogram at 0x3FD:");
-    once(32, 0x3FD, 1, &mut none);
-    once(35, 0x3FD, 1, &mut none);
+    once(32, 0x3FD, 1, &mut []);
+    once(35, 0x3FD, 1, &mut []);
 }
 
-// Call 23 has a frame.
-fn show_frame(number: u8, frame: &[u32; 8]) {
+// A call on a new engine where all answers are `value` but one. Call 23 has a frame, which is shown.
+fn but_one(number: u8, budget: u32, value: u64, place: usize, other: u64) {
+    let mut answers = [value; 98309];
+    if let Some(answer) = answers.get_mut(place) {
+        *answer = other;
+    }
+    let mut frame = [0x99u32; 8];
+    Tested { number, a: 0 }.run(engine::new(), budget, &answers, &mut frame, &mut []);
     if number == 23 {
         hex(frame[0], 8);
         write(b"..");
         digits(frame[7], 8);
     }
-}
-
-// A call on a new engine, and the frame that it was lent.
-fn over(number: u8, budget: u32, answers: &[u64; 98309]) {
-    let mut frame = [0x99u32; 8];
-    let mut none = [0u8; 0];
-    run(
-        engine::new(),
-        number,
-        0,
-        budget,
-        answers,
-        &mut frame,
-        &mut none,
-    );
-    show_frame(number, &frame);
-}
-
-// The same where all answers are `value` but one.
-fn but_one(number: u8, budget: u32, value: u64, place: usize, other: u64) {
-    let mut answers = [value; 98309];
-    if place < 98309 {
-        answers[place] = other;
-    }
-    over(number, budget, &answers);
 }
 
 // Call 22 on a table whose entries neither match nor end it, its last entry answered otherwise: 5 transport calls for the pointer,
@@ -211,68 +180,48 @@ fn frames() {
 
 // A transport call; of one that is no transfer the first byte handed over too.
 fn show_made(c: TransportCall, first: u8) {
-    let kind = [c.kind; 1];
     write(b" ");
-    write(&kind);
-    digits(wide(c.request), 1);
+    write(&[c.kind]);
+    digits(c.request, 1);
     hex(c.word, 8);
-    decimal(wide(c.bits));
-    decimal(wide(c.len));
+    decimal(c.bits);
+    decimal(c.len);
     write(b",");
-    if c.kind != 0x54 {
+    if c.kind != b'T' {
         byte(first);
     }
 }
 
-fn show_next(next: NextStep, first: u8) {
+fn show_next(next: NextStep<CallEnding>, first: u8) {
     match next {
         NextStep::Make(c) => show_made(c, first),
-        NextStep::Finish(e) => show_ending(e.number, e.value),
+        NextStep::Finish(e) => show_ending(e),
     }
 }
 
-// The value of the next answer. What it answers is shown if `shown`.
-fn answer(next: NextStep, bytes: [u8; 16], shown: bool, value: u32, more: u32) -> u32 {
-    if shown {
-        show_next(next, bytes[0]);
-    }
-    std::num::wrapping_add_u32(value, more)
-}
-
-fn first(r: Remembered, number: u8, a: u32, room: &mut [u32; 192], bytes: &mut [u8]) -> StepAnswer {
-    let mut words = [0u32; 0];
-    engine::start(r, call_of(number, a), room, &mut words, bytes)
-}
-
-fn stepped(s: State, value: u32, room: &mut [u32; 192], bytes: &mut [u8]) -> StepAnswer {
-    let mut words = [0u32; 0];
-    engine::step(s, Answer::Good(value), room, &mut words, bytes)
-}
-
-// A call that asks for some bytes, and so many steps of it that are lent others; each is answered Ok, with so much more each time.
-// What the last few of them answer is shown.
-fn steps(
-    r: Remembered,
-    number: u8,
-    a: u32,
+// So many steps of a call, each answered Ok, with so much more each time. What the last few of them answer is shown.
+#[derive(Clone, Copy)]
+struct Steps {
+    call: Tested,
     value: u32,
     more: u32,
     count: u32,
     few: u32,
-    asked: &mut [u8],
-    bytes: &mut [u8],
-) {
-    let mut room = [0u32; 192];
-    let mut x = first(r, number, a, &mut room, asked);
-    let mut v = value;
-    let mut left = count;
-    while 0 < left {
-        left -= 1;
-        let next = x.next;
-        let b = x.bytes;
-        let s = x.state;
-        v = answer(next, b, left < few, v, more);
-        x = stepped(s, v, &mut room, bytes);
+}
+
+impl Steps {
+    // The call asks for some bytes, and its steps are lent others.
+    fn take(self, r: Remembered, asked: &mut [u8], bytes: &mut [u8]) {
+        let mut room = [0u32; 192];
+        let mut x = engine::start(r, self.call.call(), &mut room, &mut [], asked);
+        let mut value = self.value;
+        for left in (0..self.count).rev() {
+            if left < self.few {
+                show_next(x.next, x.bytes[0]);
+            }
+            value = value.wrapping_add(self.more);
+            x = engine::step(x.state, Ok(value), &mut room, &mut [], bytes);
+        }
     }
 }
 
@@ -285,10 +234,18 @@ fn read_steps() {
         csw: true,
         apsel: 0,
     };
+    let read_mem = Steps {
+        call: Tested {
+            number: 13,
+            a: 0x20000000,
+        },
+        value: 0x14000000,
+        more: 0x10000000,
+        count: 5,
+        few: 5,
+    };
     write(b"\nsteps of read_mem, lent less at the end:");
-    steps(
-        known, 13, 0x20000000, 0x14000000, 0x10000000, 5, 5, &mut bytes, &mut fewer,
-    );
+    read_mem.take(known, &mut bytes, &mut fewer);
     write(b" ");
     byte(fewer[3]);
     byte(bytes[3]);
@@ -296,19 +253,14 @@ fn read_steps() {
 
 // The last few steps of a call that is lent nothing, each answered alike.
 fn last_steps(number: u8, a: u32, value: u32, count: u32, few: u32) {
-    let mut none = [0u8; 0];
-    let mut nil = [0u8; 0];
-    steps(
-        engine::new(),
-        number,
-        a,
+    let steps = Steps {
+        call: Tested { number, a },
         value,
-        0,
+        more: 0,
         count,
         few,
-        &mut none,
-        &mut nil,
-    );
+    };
+    steps.take(engine::new(), &mut [], &mut []);
 }
 
 // A step too many answers the ending again: after resume, of 5 transport calls, which would halt the core; and after a connect of 10

@@ -2,88 +2,83 @@
 // tools/README.md.
 #![tactic(auto)]
 
-ghost use Rattle.std.specs.Prelude.{◌<◌};
-
-use engine_run::Ran;
 use test_calls::{decimal, digits, hex, number, write};
 use wire::{Call, Remembered};
 use wire_numbers::{CallEnding, TransportCall};
 
+const STDIN_FILENO: i32 = 0;
+
+// As many calls are read.
+const CALLS: u32 = 100000;
+
 // As many transport calls are printed; of a longer call only their number.
 const SHOWN: usize = 1000;
 
-fn wide(x: u8) -> u32
-    ensures { result < 256 }
-{
-    x as u32
+// The next bytes of the input; zeros where it has ended.
+fn next<const N: usize>() -> [u8; N] {
+    let mut bytes = [0u8; N];
+    io::read_full(STDIN_FILENO, &mut bytes);
+    bytes
 }
 
-fn next_byte() -> u8 {
-    let mut b = [0u8; 1];
-    io::read_full(0, &mut b);
-    b[0]
-}
-
-fn next_half() -> u32
-    ensures { result < 65536 }
-{
-    let mut b = [0u8; 2];
-    io::read_full(0, &mut b);
-    0x100 * wide(b[0]) + wide(b[1])
+fn next_half() -> u16 {
+    u16::from_be_bytes(next())
 }
 
 fn next_word() -> u32 {
-    let a = next_half();
-    let b = next_half();
-    0x10000 * a + b
+    u32::from_be_bytes(next())
 }
 
-fn show_bytes(bytes: &[u8]) {
-    let mut i = 0;
-    while i < bytes.len() {
-        digits(wide(bytes[i]), 2);
-        i += 1;
+fn fill_words(words: &mut [u32]) {
+    for word in words {
+        *word = next_word();
     }
 }
 
-fn show_words(words: &[u32]) {
-    let mut i = 0;
-    while i < words.len() {
-        digits(words[i], 8);
-        i += 1;
+// So many runs of equal answers, as many as fit.
+fn fill_answers(answers: &mut [u64], runs: u16) -> &[u64] {
+    let mut end = 0usize;
+    for _ in 0..runs {
+        let start = end;
+        end = answers
+            .len()
+            .min(start.saturating_add(usize::from(next_half())));
+        let [code] = next::<1>();
+        let value = next_word();
+        answers[start..end].fill(u64::from(code) << 32 | u64::from(value));
     }
+    &answers[..end]
 }
 
-fn show_first(bytes: &[u8], n: usize) {
-    if n <= bytes.len() {
-        show_bytes(&bytes[..n]);
+// Numbers of n digits each, with nothing between them.
+fn show_each<T: Copy + Into<u64>>(numbers: &[T], n: usize) {
+    for x in numbers {
+        digits(*x, n);
     }
-}
-
-fn show_pins(output: u8, select: u8, wait_us: u32) {
-    hex(wide(output), 2);
-    hex(wide(select), 2);
-    hex(wait_us, 8);
 }
 
 // The bits of a call that hands bytes over, and these.
 fn show_handed(bits: u8, len: u8, bytes: &[u8; 16]) {
-    let n = len as usize;
-    decimal(wide(bits));
+    decimal(bits);
     write(b" ");
-    show_first(bytes, n);
+    if let Some(handed) = bytes.get(..usize::from(len)) {
+        show_each(handed, 2);
+    }
 }
 
 // What follows the letter.
 fn show_numbers(c: TransportCall, bytes: &[u8; 16]) {
-    let kind = c.kind;
-    match kind {
-        0x54 => {
-            hex(wide(c.request), 1);
+    match c.kind {
+        b'T' => {
+            hex(c.request, 1);
             hex(c.word, 8);
         }
-        0x50 => show_pins(c.output, c.select, c.word),
-        0x51 | 0x42 => show_handed(c.bits, c.len, bytes),
+        b'P' => {
+            hex(c.output, 2);
+            hex(c.select, 2);
+            hex(c.word, 8);
+        }
+        b'Q' | b'B' => show_handed(c.bits, c.len, bytes),
         _ => {}
     }
 }
@@ -91,37 +86,37 @@ fn show_numbers(c: TransportCall, bytes: &[u8; 16]) {
 // A transport call: its letter, in small.
 fn show_call(c: Call) {
     let n = wire_numbers::numbers_of(c);
-    let bytes = wire_numbers::bytes_of(c);
-    let letter = [0x20 + n.kind % 0x80; 1];
     write(b" ");
-    write(&letter);
-    show_numbers(n, &bytes);
+    write(&[n.kind.to_ascii_lowercase()]);
+    show_numbers(n, &wire_numbers::bytes_of(c));
 }
 
 fn show_log(log: &[u64]) {
-    let mut i = 0;
-    while i < log.len() {
-        let call = wire_numbers::call_of(log[i]);
-        i += 1;
-        io::print_decimal(1, i as u64);
-        show_call(call);
+    for (i, made) in log.iter().enumerate() {
+        number(i as u64 + 1);
+        show_call(wire_numbers::call_of(*made));
         write(b"\n");
     }
 }
 
+fn show_number(n: u8) {
+    write(b"call ");
+    number(n);
+    write(b"\n");
+}
+
+// The first so many of the log.
 fn show_calls(log: &[u64], n: usize) {
     if SHOWN < n {
-        io::print_decimal(1, n as u64);
+        number(n as u64);
         write(b" transport calls\n");
-        return;
-    }
-    if n <= log.len() {
-        show_log(&log[..n]);
+    } else if let Some(made) = log.get(..n) {
+        show_log(made);
     }
 }
 
 fn show_result(e: CallEnding) {
-    number(wide(e.number));
+    number(e.number);
     hex(e.value, 8);
     write(b"\n");
 }
@@ -129,200 +124,110 @@ fn show_result(e: CallEnding) {
 // The line of words or of bytes, one of which is empty.
 fn show_data(words: &[u32], bytes: &[u8]) {
     write(b"d");
-    if 0 < words.len() {
+    if !words.is_empty() {
         write(b" ");
-        show_words(words);
+        show_each(words, 8);
     }
-    if 0 < bytes.len() {
+    if !bytes.is_empty() {
         write(b" ");
-        show_bytes(bytes);
+        show_each(bytes, 2);
     }
     write(b"\n");
 }
 
+// Stays: 01's numbers, as the input has them.
 // What follows the result: the words of 11, the bytes of 13, the frame of 23 if it succeeded.
-fn show_after(number: u8, e: CallEnding, frame: &[u32; 8], words: &[u32], bytes: &[u8]) {
+fn show_left(number: u8, e: CallEnding, frame: &[u32; 8], words: &[u32], bytes: &[u8]) {
     match number {
         11 | 13 => show_data(words, bytes),
-        23 => {
-            if e.number == 0 {
-                show_data(frame, bytes);
-            }
-        }
+        23 if e.number == 0 => show_data(frame, bytes),
         _ => {}
     }
 }
 
-// Call 24's frame stands in the words that it is lent.
-fn load_frame(words: &[u32], frame: &mut [u32; 8]) {
-    if 8 <= words.len() {
-        *frame = [
-            words[0], words[1], words[2], words[3], words[4], words[5], words[6], words[7],
-        ];
-    }
-}
-
-fn show_number(number: u8) {
-    write(b"call ");
-    test_calls::number(wide(number));
-    write(b"\n");
-}
-
-fn show_ran(number: u8, x: Ran, log: &[u64], frame: &[u32; 8], words: &[u32], bytes: &[u8]) {
-    let e = x.ending;
-    show_calls(log, x.count as usize);
-    show_result(e);
-    show_after(number, e, frame, words, bytes);
-}
-
-fn run(
-    r: Remembered,
+// A call: its number and arguments, the answers that it gets, and the words and bytes that it is lent.
+#[derive(Drop)]
+struct Asked<'a> {
     number: u8,
-    a: &[u32; 8],
-    answers: &[u64],
-    frame: &mut [u32; 8],
-    words: &mut [u32],
-    bytes: &mut [u8],
-    log: &mut [u64],
-) -> Ran {
-    engine_run::run(
-        r,
-        test_calls::call_of(number, a, frame),
-        0xFFFFFFFF,
-        answers,
-        frame,
-        words,
-        bytes,
-        log,
-    )
+    args: [u32; 8],
+    answers: &'a [u64],
+    words: &'a mut [u32],
+    bytes: &'a mut [u8],
 }
 
-// A call and its text; what is remembered after it.
-fn perform(
-    r: Remembered,
-    number: u8,
-    a: &[u32; 8],
-    answers: &[u64],
-    words: &mut [u32],
-    bytes: &mut [u8],
-) -> Remembered {
-    let mut log = [0u64; 16384];
-    let mut frame = [0u32; 8];
-    show_number(number);
-    load_frame(words, &mut frame);
-    let x = run(r, number, a, answers, &mut frame, words, bytes, &mut log);
-    show_ran(number, x, &log, &frame, words, bytes);
-    x.remembered
-}
-
-fn load_words(words: &mut [u32]) {
-    let mut i = 0;
-    while i < words.len() {
-        words[i] = next_word();
-        i += 1;
+impl Asked<'_> {
+    // Runs and shows it; what is remembered after it. Call 24's frame stands in the words that it is lent.
+    fn perform(self, r: Remembered) -> Remembered {
+        let Asked {
+            number,
+            args,
+            answers,
+            words,
+            bytes,
+        } = self;
+        // Stays: arrays of the greatest size: a Vec would bring a failure of its own that no list has.
+        let mut log = [0u64; 16384];
+        let mut frame = words.first_chunk::<8>().copied().unwrap_or([0; 8]);
+        show_number(number);
+        let call = test_calls::call_of(number, &args, &frame);
+        let x = engine_run::run(
+            r,
+            call,
+            u32::MAX,
+            answers,
+            &mut frame,
+            words,
+            bytes,
+            &mut log,
+        );
+        show_calls(&log, x.count as usize);
+        show_result(x.ending);
+        show_left(number, x.ending, &frame, words, bytes);
+        x.remembered
     }
 }
 
-// The same answer n times, from the place `from` on; the place behind them.
-fn put_answers(answers: &mut [u64], from: usize, n: u32, v: u64) -> usize {
-    let mut at = from;
-    let mut left = n;
-    while 0 < left {
-        left -= 1;
-        if at < answers.len() {
-            answers[at] = v;
-            at += 1;
-        }
-    }
-    at
-}
-
-// So many runs of equal answers; how many answers they are.
-fn load_answers(answers: &mut [u64], runs: u32) -> usize {
-    let mut at = 0;
-    let mut left = runs;
-    while 0 < left {
-        left -= 1;
-        let n = next_half();
-        let code = wide(next_byte()) as u64;
-        let value = next_word() as u64;
-        at = put_answers(answers, at, n, code * 0x100000000 + value);
-    }
-    at
-}
-
-// A call whose arguments are read: the words and bytes that it is lent follow, and then its answers.
-fn take_call(
-    r: Remembered,
-    number: u8,
-    a: &[u32; 8],
-    runs: u32,
-    answers: &mut [u64],
-    words: &mut [u32],
-    bytes: &mut [u8],
-) -> Remembered {
-    load_words(words);
-    io::read_full(0, bytes);
-    let n = load_answers(answers, runs);
-    if answers.len() < n {
-        return r;
-    }
-    perform(r, number, a, &answers[..n], words, bytes)
-}
-
-// The same with so many of the words and bytes; a call that does not fit is passed over.
-fn lend(
-    r: Remembered,
-    number: u8,
-    a: &[u32; 8],
-    n: usize,
-    m: usize,
-    runs: u32,
-    words: &mut [u32],
-    bytes: &mut [u8],
-) -> Remembered {
-    let mut answers = [0u64; 16384];
-    if words.len() < n {
-        return r;
-    }
-    if bytes.len() < m {
-        return r;
-    }
-    take_call(
-        r,
-        number,
-        a,
-        runs,
-        &mut answers,
-        &mut words[..n],
-        &mut bytes[..m],
-    )
-}
-
+// The next call of the input: the lengths of the words and bytes that it is lent and the runs of its answers, its arguments, and then
+// all of these. A call that does not fit is passed over.
 fn next_call(r: Remembered, number: u8) -> Remembered {
-    let n = next_half() as usize;
-    let m = next_half() as usize;
+    let n = next_half();
+    let m = next_half();
     let runs = next_half();
-    let mut a = [0u32; 8];
-    load_words(&mut a);
+    let mut args = [0u32; 8];
+    fill_words(&mut args);
     let mut words = [0u32; 512];
     let mut bytes = [0u8; 512];
-    lend(r, number, &a, n, m, runs, &mut words, &mut bytes)
+    let mut answers = [0u64; 16384];
+    let (Some(words), Some(bytes)) = (
+        words.get_mut(..usize::from(n)),
+        bytes.get_mut(..usize::from(m)),
+    ) else {
+        return r;
+    };
+    fill_words(words);
+    io::read_full(STDIN_FILENO, bytes);
+    let call = Asked {
+        number,
+        args,
+        answers: fill_answers(&mut answers, runs),
+        words,
+        bytes,
+    };
+    call.perform(r)
 }
 
 fn main() {
     let mut r = call::new();
-    let mut left: u32 = 100000;
-    while 0 < left {
-        left -= 1;
+    for _ in 0..CALLS {
         let mut head = [0u8; 2];
-        if io::read_full(0, &mut head) < 2 {
+        if io::read_full(STDIN_FILENO, &mut head) < head.len() {
             return;
         }
-        if head[0] == 1 {
+        let [begins, number] = head;
+        if begins == 1 {
             write(b"list\n");
             r = call::new();
         }
-        r = next_call(r, head[1]);
+        r = next_call(r, number);
     }
 }

@@ -2,88 +2,60 @@
 // Standard input: for each vector two lengths of 4 bytes, big-endian, then the script and the text.
 #![tactic(auto)]
 
-ghost use Rattle.std.specs.Prelude.{◌<◌};
+const STDIN_FILENO: i32 = 0;
 
-fn wide(x: u8) -> usize
-    ensures { result < 256 }
-{
-    x as usize
-}
+const STDOUT_FILENO: i32 = 1;
 
-fn big_endian(a: u8, b: u8, c: u8, d: u8) -> usize {
-    0x1000000 * wide(a) + 0x10000 * wide(b) + 0x100 * wide(c) + wide(d)
+// As many vectors are read.
+const VECTORS: u64 = 100000;
+
+// The next length of the input, or its end.
+fn next_length() -> Option<usize> {
+    let mut bytes = [0u8; 4];
+    if io::read_full(STDIN_FILENO, &mut bytes) < bytes.len() {
+        return None;
+    }
+    Some(u32::from_be_bytes(bytes) as usize)
 }
 
 // Whether the script prints the text.
 fn agrees(script: &[u8], text: &[u8], out: &mut [u8]) -> bool {
     let n = script::dapscript(script, out);
-    if n <= out.len() {
-        return check::same(&out[..n], text);
-    }
-    false
+    out.get(..n)
+        .is_some_and(|printed| check::same(printed, text))
 }
 
-#[derive(Clone, Copy)]
-pub enum Vector {
-    Agrees,
-    Differs,
-    End,
-}
-
-// The next vector of the input; one that does not fit the buffers differs.
-fn next_vector(script: &mut [u8], text: &mut [u8], out: &mut [u8]) -> Vector {
-    let mut head = [0u8; 8];
-    if io::read_full(0, &mut head) < 8 {
-        return Vector::End;
-    }
-    let n = big_endian(head[0], head[1], head[2], head[3]);
-    let m = big_endian(head[4], head[5], head[6], head[7]);
-    if script.len() < n {
-        return Vector::Differs;
-    }
-    if text.len() < m {
-        return Vector::Differs;
-    }
-    io::read_full(0, &mut script[..n]);
-    io::read_full(0, &mut text[..m]);
-    if agrees(&script[..n], &text[..m], out) {
-        return Vector::Agrees;
-    }
-    Vector::Differs
-}
-
-// The same over whole arrays.
-fn vector_of(script: &mut [u8; 65600], text: &mut [u8; 262144], out: &mut [u8; 1048576]) -> Vector {
-    next_vector(script, text, out)
+// Whether the next vector of the input agrees, or the input's end. A vector that does not fit the buffers differs.
+fn next_vector(script: &mut [u8], text: &mut [u8], out: &mut [u8]) -> Option<bool> {
+    let n = next_length()?;
+    let m = next_length()?;
+    let (Some(script), Some(text)) = (script.get_mut(..n), text.get_mut(..m)) else {
+        return Some(false);
+    };
+    io::read_full(STDIN_FILENO, script);
+    io::read_full(STDIN_FILENO, text);
+    Some(agrees(script, text, out))
 }
 
 fn report(agree: u64, differ: u64) {
-    io::print_decimal(1, agree);
-    io::write_all(1, b" vectors agree, ");
-    io::print_decimal(1, differ);
-    io::write_all(1, b" differ\n");
+    io::print_decimal(STDOUT_FILENO, agree);
+    io::write_all(STDOUT_FILENO, b" vectors agree, ");
+    io::print_decimal(STDOUT_FILENO, differ);
+    io::write_all(STDOUT_FILENO, b" differ\n");
 }
 
 fn main() {
+    // Stays: arrays of the greatest size: a Vec would bring a failure of its own that no vector has.
     let mut script = [0u8; 65600];
     let mut text = [0u8; 262144];
     let mut out = [0u8; 1048576];
-    let mut agree: u64 = 0;
-    let mut differ: u64 = 0;
-    let mut left: u64 = 100000;
-    while 0 < left {
-        left -= 1;
-        match vector_of(&mut script, &mut text, &mut out) {
-            Vector::Agrees => {
-                agree = std::num::wrapping_add_u64(agree, 1);
-            }
-            Vector::Differs => {
-                differ = std::num::wrapping_add_u64(differ, 1);
-            }
-            Vector::End => {
-                report(agree, differ);
-                return;
-            }
+    let mut agree = 0u64;
+    let mut differ = 0u64;
+    for _ in 0..VECTORS {
+        match next_vector(&mut script, &mut text, &mut out) {
+            Some(true) => agree = agree.wrapping_add(1),
+            Some(false) => differ = differ.wrapping_add(1),
+            None => break,
         }
     }
     report(agree, differ);

@@ -1,3 +1,4 @@
 pub mod Bytes
+pub mod Outcomes
 pub mod Wire
 pub mod Laws

@@ -1,11 +1,10 @@
 -- A call of the engine as a tree of transport calls that continues by the answer, and what a list of answers makes of it.
 -- `ask` is a transport call whose answer decides how the call goes on. `tell` is the ABORT whose answer is ignored.
 -- Every node holds the memory that stands at that moment, so that it is known wherever the budget ends.
-use Rattle.std.specs.Prelude.{ℕ, Bool, true, false, List, [], ◌∷◌}
+use Rattle.std.specs.Prelude.{ℕ, Bool, true, false, List, [], ◌∷◌, Ok, Err}
 use Rattle.wire.specs.declared.Call.{Call}
-use Rattle.wire.specs.declared.Answer.{Answer}
-use Rattle.wire.specs.declared.Outcome.{Outcome}
-use Rattle.wire.specs.declared.Outcome.TheVariants.{Value, Failed}
+use Rattle.wire.specs.Outcomes.{Answer}
+use Rattle.wire.specs.Outcomes.{Outcome}
 use Rattle.wire.specs.declared.Remembered.{Remembered}
 
 -- what the engine remembers, the words of a run, the caller's buffer
@@ -33,8 +32,8 @@ pub data Ending : Type 0 where
   spent : Ending
 
 abbrev pub succeeds : Ending → Bool
-succeeds (ended (Value v)) = true
-succeeds (ended (Failed e)) = false
+succeeds (ended (Ok v)) = true
+succeeds (ended (Err e)) = false
 succeeds spent = false
 
 pub record Played : Type 0 where

@@ -5,8 +5,9 @@
 // Transport calls and their answers, errors and outcomes, and what the engine remembers; each by number where it stands in a word.
 #![tactic(auto)]
 
-ghost use Rattle.std.specs.Prelude.{◌≡◌, ◌%◌, ◌≤◌};
+ghost use Rattle.std.specs.Prelude.{◌≡◌, ◌%◌, ◌≤◌, take};
 ghost use Rattle.wire.specs.Bytes.{pattern_no, pattern_at, pattern_bytes, padded};
+ghost use Rattle.wire.specs.Outcomes.{arm_error};
 ghost use Rattle.wire.specs.Laws.Told.{error_of, outcome_of};
 
 // What the engine remembers of the target. SELECT 0xFFFFFFFF means unknown.
@@ -51,14 +52,16 @@ pub enum Call {
     OutputEnable,
 }
 
-// What the transport says: Ok with a word, or one of `DapError`.
-#[derive(Clone, Copy)]
-pub enum Answer {
-    Good(u32),
+// Why the probe did not make a transport call, as `DapTransport` says it.
+#[derive(Clone, Copy, PartialEq, Eq)]
+pub enum DapError {
     SwdError(u8),
     NotSupported,
     Other,
 }
+
+// What the transport says: a word, or an error.
+pub type Answer = Result<u32, DapError>;
 
 // The Rust's errors, and what 01 adds for the engine: Range, Align, TableEnd.
 #[derive(Clone, Copy)]
@@ -76,54 +79,51 @@ pub enum ArmError {
 }
 
 // How an operation or a call ended: with a value, or with an error.
-#[derive(Clone, Copy)]
-pub enum Outcome {
-    Value(u32),
-    Failed(ArmError),
-}
+pub type Outcome = Result<u32, ArmError>;
 
-// The bytes of the fixed sequences, first byte first, with zeros up to 16.
-const RESET_HIGH: [u8; 16] = [
-    255, 255, 255, 255, 255, 255, 255, 255, 0, 0, 0, 0, 0, 0, 0, 0,
-];
+// The bytes of the fixed sequences, first byte first.
+const RESET_HIGH: [u8; 8] = [0xFF; 8];
 
-const RESET_IDLE: [u8; 16] = [0, 0, 0, 0, 0, 0, 0, 0, 0, 0, 0, 0, 0, 0, 0, 0];
+const RESET_IDLE: [u8; 1] = [0x00];
 
-const JTAG_TO_SWD: [u8; 16] = [0x9E, 0xE7, 0, 0, 0, 0, 0, 0, 0, 0, 0, 0, 0, 0, 0, 0];
+const JTAG_TO_SWD: [u8; 2] = [0x9E, 0xE7];
 
-const SWD_TO_DORMANT: [u8; 16] = [0xBC, 0xE3, 0, 0, 0, 0, 0, 0, 0, 0, 0, 0, 0, 0, 0, 0];
+const SWD_TO_DORMANT: [u8; 2] = [0xBC, 0xE3];
 
-const ALERT_HIGH: [u8; 16] = [255, 0, 0, 0, 0, 0, 0, 0, 0, 0, 0, 0, 0, 0, 0, 0];
+const ALERT_HIGH: [u8; 1] = [0xFF];
 
 const SELECTION_ALERT: [u8; 16] = [
     0x92, 0xF3, 0x09, 0x62, 0x95, 0x2D, 0x85, 0x86, 0xE9, 0xAF, 0xDD, 0xE3, 0xA2, 0x0E, 0xBC, 0x19,
 ];
 
-const ALERT_IDLE: [u8; 16] = [0, 0, 0, 0, 0, 0, 0, 0, 0, 0, 0, 0, 0, 0, 0, 0];
+const ALERT_IDLE: [u8; 1] = [0x00];
 
-const SWD_ACTIVATION: [u8; 16] = [0x1A, 0, 0, 0, 0, 0, 0, 0, 0, 0, 0, 0, 0, 0, 0, 0];
+const SWD_ACTIVATION: [u8; 1] = [0x1A];
 
-// The bytes of a fixed sequence.
+// Bytes as they stand in an array of 16: zeros after them. What does not fit is left out.
+pub fn padded(bytes: &[u8]) -> [u8; 16]
+    ensures { result ≡ padded (take 16 bytes.now) }
+{
+    let n = bytes.len().min(16);
+    let mut all = [0u8; 16];
+    all[..n].copy_from_slice(&bytes[..n]);
+    all
+}
+
+// The bytes of a fixed sequence, first byte first.
 pub fn pattern_bytes(p: Pattern) -> [u8; 16]
     ensures { result ≡ padded (pattern_bytes p) }
 {
     match p {
-        Pattern::ResetHigh => RESET_HIGH,
-        Pattern::ResetIdle => RESET_IDLE,
-        Pattern::JtagToSwd => JTAG_TO_SWD,
-        Pattern::SwdToDormant => SWD_TO_DORMANT,
-        Pattern::AlertHigh => ALERT_HIGH,
-        Pattern::SelectionAlert => SELECTION_ALERT,
-        Pattern::AlertIdle => ALERT_IDLE,
-        Pattern::SwdActivation => SWD_ACTIVATION,
+        Pattern::ResetHigh => padded(&RESET_HIGH),
+        Pattern::ResetIdle => padded(&RESET_IDLE),
+        Pattern::JtagToSwd => padded(&JTAG_TO_SWD),
+        Pattern::SwdToDormant => padded(&SWD_TO_DORMANT),
+        Pattern::AlertHigh => padded(&ALERT_HIGH),
+        Pattern::SelectionAlert => padded(&SELECTION_ALERT),
+        Pattern::AlertIdle => padded(&ALERT_IDLE),
+        Pattern::SwdActivation => padded(&SWD_ACTIVATION),
     }
-}
-
-// A byte as a word: the lowest eight bits are all of it.
-pub fn wide(x: u8) -> u32
-    ensures { (result ≡ x) × (result % 256 ≡ x) }
-{
-    x as u32
 }
 
 // An error or an outcome as two numbers.
@@ -133,102 +133,117 @@ pub struct Told {
     pub value: u32,
 }
 
-fn error_no(number: u32) -> Told
-    ensures { result ≡ record { number = number; value = 0 } }
-{
-    Told {
-        number: number,
-        value: 0,
+impl Told {
+    fn error(number: u32) -> Told
+        ensures { result ≡ record { number = number; value = 0 } }
+    {
+        Told { number, value: 0 }
     }
 }
 
-pub fn error_told(e: ArmError) -> Told
-    ensures { (error_of result.number result.value ≡ e) × (result.number ≤ 9) }
-{
-    match e {
-        ArmError::Transfer(ack) => Told {
-            number: 0,
-            value: wide(ack),
-        },
-        ArmError::Wait => error_no(1),
-        ArmError::NotSupported => error_no(2),
-        ArmError::PowerUpTimeout => error_no(3),
-        ArmError::CoreTimeout => error_no(4),
-        ArmError::NoTarget => error_no(5),
-        ArmError::Internal => error_no(6),
-        ArmError::Range => error_no(7),
-        ArmError::Align => error_no(8),
-        ArmError::TableEnd => error_no(9),
+impl From<ArmError> for Told {
+    ghost from_gives = { λ e told. (error_of told.number told.value ≡ e) × (told.number ≤ 9) };
+
+    fn from(e: ArmError) -> Told {
+        match e {
+            ArmError::Transfer(ack) => Told {
+                number: 0,
+                value: u32::from(ack),
+            },
+            ArmError::Wait => Told::error(1),
+            ArmError::NotSupported => Told::error(2),
+            ArmError::PowerUpTimeout => Told::error(3),
+            ArmError::CoreTimeout => Told::error(4),
+            ArmError::NoTarget => Told::error(5),
+            ArmError::Internal => Told::error(6),
+            ArmError::Range => Told::error(7),
+            ArmError::Align => Told::error(8),
+            ArmError::TableEnd => Told::error(9),
+        }
     }
 }
 
 // The error that two numbers stand for.
-pub fn error_at(number: u32, value: u32) -> ArmError
-    ensures { result ≡ error_of number value }
-{
-    match number {
-        0 => ArmError::Transfer((value % 256) as u8),
-        1 => ArmError::Wait,
-        2 => ArmError::NotSupported,
-        3 => ArmError::PowerUpTimeout,
-        4 => ArmError::CoreTimeout,
-        5 => ArmError::NoTarget,
-        6 => ArmError::Internal,
-        7 => ArmError::Range,
-        8 => ArmError::Align,
-        _ => ArmError::TableEnd,
+impl From<Told> for ArmError {
+    ghost from_gives = { λ told e. e ≡ error_of told.number told.value };
+
+    fn from(told: Told) -> ArmError {
+        match told.number {
+            0 => ArmError::Transfer((told.value % 256) as u8),
+            1 => ArmError::Wait,
+            2 => ArmError::NotSupported,
+            3 => ArmError::PowerUpTimeout,
+            4 => ArmError::CoreTimeout,
+            5 => ArmError::NoTarget,
+            6 => ArmError::Internal,
+            7 => ArmError::Range,
+            8 => ArmError::Align,
+            _ => ArmError::TableEnd,
+        }
     }
 }
 
-pub fn outcome_told(o: Outcome) -> Told
-    ensures { outcome_of result.number result.value ≡ o }
-{
-    match o {
-        Outcome::Value(v) => Told {
-            number: 10,
-            value: v,
-        },
-        Outcome::Failed(e) => error_told(e),
+impl From<Outcome> for Told {
+    ghost from_gives = { λ o told. outcome_of told.number told.value ≡ o };
+
+    fn from(o: Outcome) -> Told {
+        match o {
+            Ok(v) => Told {
+                number: 10,
+                value: v,
+            },
+            Err(e) => Told::from(e),
+        }
     }
 }
 
 // The outcome that two numbers stand for.
-pub fn outcome_at(number: u32, value: u32) -> Outcome
-    ensures { result ≡ outcome_of number value }
-{
-    if number == 10 {
-        return Outcome::Value(value);
+impl From<Told> for Outcome {
+    ghost from_gives = { λ told o. o ≡ outcome_of told.number told.value };
+
+    fn from(told: Told) -> Outcome {
+        if told.number == 10 {
+            return Ok(told.value);
+        }
+        Err(ArmError::from(told))
     }
-    Outcome::Failed(error_at(number, value))
+}
+
+// What the probe could not do, as the Rust's error.
+impl From<DapError> for ArmError {
+    ghost from_gives = { λ e error. error ≡ arm_error e };
+
+    fn from(e: DapError) -> ArmError {
+        match e {
+            DapError::SwdError(ack) => ArmError::Transfer(ack),
+            DapError::NotSupported => ArmError::NotSupported,
+            DapError::Other => ArmError::Internal,
+        }
+    }
 }
 
 // The fixed sequences by number.
-pub fn pattern_no(p: Pattern) -> u32
-    ensures { (result ≡ pattern_no p) × (result ≤ 7) × (pattern_at result ≡ p) }
-{
-    match p {
-        Pattern::ResetHigh => 0,
-        Pattern::ResetIdle => 1,
-        Pattern::JtagToSwd => 2,
-        Pattern::SwdToDormant => 3,
-        Pattern::AlertHigh => 4,
-        Pattern::SelectionAlert => 5,
-        Pattern::AlertIdle => 6,
-        Pattern::SwdActivation => 7,
+impl From<Pattern> for u32 {
+    ghost from_gives = { λ p n. (n ≡ pattern_no p) × (n ≤ 7) × (pattern_at n ≡ p) };
+
+    fn from(p: Pattern) -> u32 {
+        p as u32
     }
 }
 
-pub fn pattern_at(n: u32) -> Pattern
-    ensures { result ≡ pattern_at n }
-{
-    match n {
-        0 => Pattern::ResetHigh,
-        1 => Pattern::ResetIdle,
-        2 => Pattern::JtagToSwd,
-        3 => Pattern::SwdToDormant,
-        4 => Pattern::AlertHigh,
-        5 => Pattern::SelectionAlert,
-        6 => Pattern::AlertIdle,
-        _ => Pattern::SwdActivation,
+impl From<u32> for Pattern {
+    ghost from_gives = { λ n p. p ≡ pattern_at n };
+
+    fn from(n: u32) -> Pattern {
+        match n {
+            0 => Pattern::ResetHigh,
+            1 => Pattern::ResetIdle,
+            2 => Pattern::JtagToSwd,
+            3 => Pattern::SwdToDormant,
+            4 => Pattern::AlertHigh,
+            5 => Pattern::SelectionAlert,
+            6 => Pattern::AlertIdle,
+            _ => Pattern::SwdActivation,
+        }
     }
 }

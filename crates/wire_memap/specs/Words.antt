@@ -1,9 +1,8 @@
 -- Copyright 2026 Kenta Ida. SPDX-License-Identifier: Apache-2.0. Ported from arm-debug/src/lib.rs of ciniml/rust-dap.
 -- Words of the target's memory (000: read_word to write_words). The words of a run stand in the memory's row: the last one
 -- at place `last`, the others before it.
-use Rattle.std.specs.Prelude.{ℕ, zero, suc, ◌-◌, ◌/◌, ◌%◌, min, cond, eqb, set, get_or}
+use Rattle.std.specs.Prelude.{ℕ, zero, suc, ◌-◌, ◌/◌, ◌%◌, min, cond, eqb, set, get_or, Ok}
 use Rattle.wire.specs.Wire.{Memory}
-use Rattle.wire.specs.declared.Outcome.TheVariants.{Value}
 use Rattle.wire_memap.specs.Action.{Action, ◌>>=◌, ◌>>◌, return, transferring}
 use Rattle.wire_memap.specs.Ports.{RDBUFF, TAR, DRW, CSW_DEFAULT, ap_reading, ap_writing, dp_read, ap_access, ap_write, ap_read, ensure_csw}
 
@@ -31,7 +30,7 @@ placed m i v = record { remembered = m.remembered; words = set m.words i v; buf 
 
 -- the word v goes to place i of the row; a place outside is dropped
 abbrev pub place : ℕ → ℕ → Action
-place i v k m = k (placed m i v) (Value 0)
+place i v k m = k (placed m i v) (Ok 0)
 
 -- as many words as fit below the next multiple of 1024, up to which every TAR goes on
 abbrev pub tar_run : ℕ → ℕ → ℕ

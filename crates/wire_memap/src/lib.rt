@@ -3,18 +3,19 @@
 // Ported from arm-debug/src/lib.rs of ciniml/rust-dap.
 
 // The words of an operation in flight; one access to a port, SELECT before it where it has to be written; the start of an operation.
+// Stays: the words t and m go apart, as C lends them to `bench_start` and `bench_step`: a struct of both would be copied in and out at each step.
 #![tactic(auto)]
 
-ghost use Rattle.std.specs.Prelude.{◌≡◌, ◌-◌, ◌≤◌, set, get_or};
+ghost use Rattle.std.specs.Prelude.{◌≡◌, ◌≤◌, set, Ok};
 ghost use Rattle.wire_transfer.specs.Transfer.{raw};
 ghost use Rattle.wire_transfer.specs.Laws.Flight.{begun};
 ghost use Rattle.wire_memap.specs.Ports as Ports;
 ghost use Rattle.wire_memap.specs.Ports.{select_of, a32, dp_writing};
 ghost use Rattle.wire_memap.specs.Ops.{perform};
 ghost use Rattle.wire_memap.specs.Laws.Doing.{remembered_of, kind_of, OpSized, Remembers};
-ghost use Rattle.wire_memap.specs.Laws.Flight.{waiting, Accessed, Begun, ensuring_task};
+ghost use Rattle.wire_memap.specs.Laws.Flight.{waiting, Accessed, Begun, Tries, ensuring_task, step_tree};
 
-use wire::{Call, Outcome, Remembered};
+use wire::{Call, Remembered};
 use words::*;
 
 pub mod words;
@@ -33,52 +34,22 @@ pub enum Op {
     Other(Call),
 }
 
-// What an operation in flight comes to with an answer: its next transport call is in flight, or it is over.
-#[derive(Clone, Copy)]
-pub enum Went {
-    Moving,
-    Finished(Outcome),
-}
-
-pub fn minus(a: u32, b: u32) -> u32
-    ensures { result ≡ a - b }
-{
-    if a < b {
-        return 0;
-    }
-    a - b
-}
-
-// v at place i of the row; a place outside is dropped.
-pub fn place_word(row: &mut [u32], i: u32, v: u32)
-    ensures { row.new ≡ set row.old i v }
-{
-    let j = i as usize;
-    if j < row.len() {
-        row[j] = v;
-    }
-}
-
-// The word at place i of the row; a place outside reads 0.
-pub fn word_at(row: &[u32], i: u32) -> u32
-    ensures { result ≡ get_or row.now i 0 }
-{
-    let j = i as usize;
-    if j < row.len() {
-        return row[j];
-    }
-    0
+// A way to take the value v of an access at once, where another access of the same operation follows it: true; or false, and nothing is
+// done. `wire_runs` has one for the words of a run, `wire_step` one for any access.
+pub trait AtOnce {
+    fn takes(t: &mut [u32; 7], m: &mut [u32; 12], v: u32, row: &mut [u32]) -> bool
+        ensures { Tries (step_tree t.old m.old (Ok v) row.old) result
+            t.old m.old row.old t.new m.new row.new };
 }
 
 // What is remembered, as the words have it.
 pub fn remembered(m: &[u32; 12]) -> Remembered
     ensures { result ≡ remembered_of m.now }
 {
-    let apsel = m[APSEL] % 256;
     Remembered {
         select: m[SELECT],
         csw: m[CSW] == 1,
-        apsel: apsel as u8,
+        apsel: (m[APSEL] % 256) as u8,
     }
 }
 
@@ -106,8 +77,7 @@ fn selecting(t: &mut [u32; 7], m: &mut [u32; 12], phase: u32, request: u32, word
 fn select_of(m: &[u32; 12], addr: u8) -> u32
     ensures { result ≡ select_of (remembered_of m.now) addr }
 {
-    let apsel = m[APSEL] % 256;
-    apsel * 0x1000000 + (addr as u32) / 16 * 16
+    m[APSEL] % 256 * 0x1000000 + u32::from(addr) / 16 * 16
 }
 
 // A transfer to a register of the access port, in a phase: SELECT first, where it differs from the one remembered.
@@ -151,7 +121,7 @@ fn task_start(
 fn a32(addr: u8) -> u32
     ensures { (result ≡ a32 addr) × (result ≤ 12) }
 {
-    (addr as u32) % 16 / 4 * 4
+    u32::from(addr) % 16 / 4 * 4
 }
 
 // A transport call as it stands, with nothing to do after it.
@@ -184,9 +154,6 @@ pub fn remember(m: &mut [u32; 12], r: Remembered)
     ensures { OpSized m.old → Remembers r m.new }
 {
     m[SELECT] = r.select;
-    m[CSW] = 0;
-    m[APSEL] = wire::wide(r.apsel);
-    if r.csw {
-        m[CSW] = 1;
-    }
+    m[CSW] = u32::from(r.csw);
+    m[APSEL] = u32::from(r.apsel);
 }

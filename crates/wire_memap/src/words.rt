@@ -1,5 +1,6 @@
 // The words of an operation in flight, which its owner lends and which are updated in place, by their places; and the numbers that
 // stand in them.
+// Stays: `bazkondur_engine_step` is lent an engine as words of C (include/bazkondur.h), which are updated in place, so a kind or a phase is a number.
 
 // PHASE: which access is in flight, and 16 more while SELECT goes before it.
 pub const PHASE: usize = 0;

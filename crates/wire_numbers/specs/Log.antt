@@ -1,8 +1,8 @@
 -- Answers and transport calls as numbers of 64 bits, for lists that are lent.
-use Rattle.std.specs.Prelude.{ℕ, ◌+◌, ◌*◌, ◌/◌, ◌%◌, cond, eqb}
+use Rattle.std.specs.Prelude.{ℕ, ◌+◌, ◌*◌, ◌/◌, ◌%◌, cond, eqb, Ok, Err}
 use Rattle.wire.specs.Bytes.{pattern_no, pattern_at}
-use Rattle.wire.specs.declared.Answer.{Answer}
-use Rattle.wire.specs.declared.Answer.TheVariants as A
+use Rattle.wire.specs.Outcomes.{Answer}
+use Rattle.wire.specs.declared.DapError.TheVariants as A
 use Rattle.wire.specs.declared.Call.{Call}
 use Rattle.wire.specs.declared.Call.TheVariants as C
 
@@ -10,7 +10,7 @@ use Rattle.wire.specs.declared.Call.TheVariants as C
 -- lowest 8 bits count
 abbrev pub answer_at : ℕ → ℕ → Answer
 answer_at code value =
-    cond (eqb code 0) (A.Good value) (cond (eqb code 1) (A.SwdError (value % 256)) (cond (eqb code 2) A.NotSupported A.Other))
+    cond (eqb code 0) (Ok value) (cond (eqb code 1) (Err (A.SwdError (value % 256))) (cond (eqb code 2) (Err A.NotSupported) (Err A.Other)))
 
 -- the same as one number: the code times 2^32, and the value
 abbrev pub answer_of : ℕ → Answer

@@ -1,10 +1,9 @@
 -- 01's result numbers: one definition from the ending of a call to its number and value.
-use Rattle.std.specs.Prelude.{ℕ}
+use Rattle.std.specs.Prelude.{ℕ, Ok, Err}
 use Rattle.wire.specs.Wire.{Ending, ended, spent}
 use Rattle.wire.specs.declared.ArmError.{ArmError}
 use Rattle.wire.specs.declared.ArmError.TheVariants as E
-use Rattle.wire.specs.declared.Outcome.{Outcome}
-use Rattle.wire.specs.declared.Outcome.TheVariants.{Value, Failed}
+use Rattle.wire.specs.Outcomes.{Outcome}
 use Rattle.wire_numbers.specs.declared.CallEnding.{CallEnding}
 
 abbrev pub ending : ℕ → ℕ → CallEnding
@@ -30,8 +29,8 @@ abbrev pub error_value : ArmError → ℕ
 error_value e = (error_ending e).value
 
 abbrev pub result_of : Outcome → CallEnding
-result_of (Value v) = ending 0 v
-result_of (Failed e) = error_ending e
+result_of (Ok v) = ending 0 v
+result_of (Err e) = error_ending e
 
 -- Spent is 11
 abbrev pub ending_of : Ending → CallEnding

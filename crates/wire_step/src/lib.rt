@@ -3,20 +3,27 @@
 // Ported from arm-debug/src/lib.rs of ciniml/rust-dap.
 
 // What an operation in flight does with an answer: the access that follows, or the operation's value.
+// Stays: the words t and m go apart, as C lends them to `bench_start` and `bench_step`: a struct of both would be copied in and out at each step.
 #![tactic(auto)]
 
-ghost use Rattle.std.specs.Prelude.{true, false, ◌≡◌, ◌-◌, get_or};
-ghost use Rattle.wire.specs.declared.Answer.TheVariants.{Good};
-ghost use Rattle.wire.specs.declared.Outcome.TheVariants.{Value};
+ghost use Rattle.std.specs.Prelude.{None, true, false, ◌≡◌, ◌-◌, get_or, Ok};
 ghost use Rattle.wire_transfer.specs.Laws.Flight.{begun};
 ghost use Rattle.wire_memap.specs.Words.{pull, push};
-ghost use Rattle.wire_memap.specs.declared.Went.TheVariants.{Moving};
 ghost use Rattle.wire_memap.specs.Laws.Flight.{select_stands, Fits, Begun, BegunAt, Goes, Ends, Tries};
 ghost use Rattle.wire_memap.specs.Laws.Flight.{empty, following, data_after, tar_after, ended_tree, step_tree};
 
 use wire::{Answer, Outcome};
-use wire_memap::Went;
+use wire_memap::AtOnce;
 use wire_memap::words::*;
+
+// The access that follows any other.
+pub struct NextAccess;
+
+impl AtOnce for NextAccess {
+    fn takes(t: &mut [u32; 7], m: &mut [u32; 12], v: u32, row: &mut [u32]) -> bool {
+        op_moves(t, m, v, row)
+    }
+}
 
 // The next access of a run of reads: DRW while `more` are to be asked for, and then RDBUFF.
 fn pull_on(t: &mut [u32; 7], m: &mut [u32; 12], more: u32)
@@ -39,7 +46,7 @@ fn push_on(t: &mut [u32; 7], m: &mut [u32; 12], more: u32, row: &[u32])
         wire_memap::direct(t, m, UNIT, RDBUFF_READ, 0);
         return;
     }
-    let v = wire_memap::word_at(row, wire_memap::minus(m[LAST], more - 1));
+    let v = slots::get_or(row, m[LAST].saturating_sub(more - 1) as usize, 0);
     m[LEFT] = more;
     wire_memap::direct(t, m, PUSH, DRW_WRITE, v);
 }
@@ -48,10 +55,7 @@ fn push_on(t: &mut [u32; 7], m: &mut [u32; 12], more: u32, row: &[u32])
 fn is_empty(m: &[u32; 12]) -> bool
     ensures { result ≡ empty m.now }
 {
-    if m[TASK] == READ_WORDS {
-        return m[LEFT] == 0;
-    }
-    false
+    m[TASK] == READ_WORDS && m[LEFT] == 0
 }
 
 // The first data access of a task that is not empty.
@@ -68,10 +72,8 @@ fn data_on(t: &mut [u32; 7], m: &mut [u32; 12], row: &[u32])
         }
         READ_WORDS => wire_memap::access(t, m, FIRST, DRW_READ, DRW, 0),
         _ => {
-            let word = wire_memap::word_at(
-                row,
-                wire_memap::minus(m[LAST], wire_memap::minus(m[LEFT], 1)),
-            );
+            let place = m[LAST].saturating_sub(m[LEFT].saturating_sub(1));
+            let word = slots::get_or(row, place as usize, 0);
             wire_memap::access(t, m, PUSH, DRW_WRITE, DRW, word)
         }
     }
@@ -105,11 +107,8 @@ fn follows(m: &[u32; 12]) -> bool
     ensures { result ≡ following m.now }
 {
     let phase = m[PHASE];
-    if is_empty(m) {
-        if phase == TAR_SENT {
-            return false;
-        }
-        return LAST_READ < phase;
+    if phase == TAR_SENT {
+        return !is_empty(m);
     }
     LAST_READ < phase
 }
@@ -117,7 +116,7 @@ fn follows(m: &[u32; 12]) -> bool
 // The access that follows the value v.
 fn move_on(t: &mut [u32; 7], m: &mut [u32; 12], v: u32, row: &mut [u32])
     ensures { following m.old ≡ true → Fits t.old m.old
-        → Goes (ended_tree m.old (Value v) row.old) Moving t.new m.new row.new }
+        → Goes (ended_tree m.old (Ok v) row.old) None t.new m.new row.new }
 {
     let phase = m[PHASE];
     if SELECTING <= phase {
@@ -127,15 +126,15 @@ fn move_on(t: &mut [u32; 7], m: &mut [u32; 12], v: u32, row: &mut [u32])
     let n = m[LEFT];
     match phase {
         PULL => {
-            wire_memap::place_word(row, wire_memap::minus(m[LAST], n), v);
-            pull_on(t, m, wire_memap::minus(n, 1))
+            slots::put(row, m[LAST].saturating_sub(n) as usize, v);
+            pull_on(t, m, n.saturating_sub(1))
         }
-        PUSH => push_on(t, m, wire_memap::minus(n, 1), row),
+        PUSH => push_on(t, m, n.saturating_sub(1), row),
         POSTED => wire_memap::direct(t, m, ONLY, RDBUFF_READ, 0),
         CSW_SENT => tar_on(t, m),
         TAR_SENT => data_on(t, m, row),
         SENT => wire_memap::direct(t, m, UNIT, RDBUFF_READ, 0),
-        _ => pull_on(t, m, wire_memap::minus(n, 1)),
+        _ => pull_on(t, m, n.saturating_sub(1)),
     }
 }
 
@@ -148,33 +147,32 @@ fn last_value(m: &[u32; 12], v: u32, row: &mut [u32]) -> u32
         return v;
     }
     if phase == LAST_READ {
-        wire_memap::place_word(row, m[LAST], v);
-        return 0;
+        slots::put(row, m[LAST] as usize, v);
     }
     0
 }
 
 // What an operation in flight does with the outcome of its transport call; an error ends it.
-fn op_ended(t: &mut [u32; 7], m: &mut [u32; 12], o: Outcome, row: &mut [u32]) -> Went
+fn op_ended(t: &mut [u32; 7], m: &mut [u32; 12], o: Outcome, row: &mut [u32]) -> Option<Outcome>
     ensures { Fits t.old m.old
         → Goes (ended_tree m.old o row.old) result t.new m.new row.new }
 {
     match o {
-        Outcome::Value(v) => {
+        Ok(v) => {
             if follows(m) {
                 move_on(t, m, v, row);
-                return Went::Moving;
+                return None;
             }
             let last = last_value(m, v, row);
-            Went::Finished(Outcome::Value(last))
+            Some(Ok(last))
         }
-        Outcome::Failed(e) => Went::Finished(Outcome::Failed(e)),
+        Err(e) => Some(Err(e)),
     }
 }
 
 // The access that follows the value v, if one does: else nothing is done.
 pub fn op_moves(t: &mut [u32; 7], m: &mut [u32; 12], v: u32, row: &mut [u32]) -> bool
-    ensures { Tries (step_tree t.old m.old (Good v) row.old) result
+    ensures { Tries (step_tree t.old m.old (Ok v) row.old) result
         t.old m.old row.old t.new m.new row.new }
 {
     if wire_transfer::is_aborting(t) {
@@ -188,12 +186,10 @@ pub fn op_moves(t: &mut [u32; 7], m: &mut [u32; 12], v: u32, row: &mut [u32]) ->
 }
 
 // What an operation in flight does with an answer.
-pub fn op_step(t: &mut [u32; 7], m: &mut [u32; 12], a: Answer, row: &mut [u32]) -> Went
+pub fn op_step(t: &mut [u32; 7], m: &mut [u32; 12], a: Answer, row: &mut [u32]) -> Option<Outcome>
     ensures { Fits t.old m.old
         → Goes (step_tree t.old m.old a row.old) result t.new m.new row.new }
 {
-    match wire_transfer::transfer_step(t, a) {
-        wire_transfer::Went::Again => Went::Moving,
-        wire_transfer::Went::Ended(o) => op_ended(t, m, o, row),
-    }
+    let o = wire_transfer::transfer_step(t, a)?;
+    op_ended(t, m, o, row)
 }

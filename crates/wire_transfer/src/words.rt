@@ -1,5 +1,6 @@
 // The words of a transport call in flight, which its owner lends and which are updated in place, by their places; and the numbers that
 // stand in them.
+// Stays: `bazkondur_engine_step` is lent an engine as words of C (include/bazkondur.h), which are updated in place, so a kind or a phase is a number.
 
 // MODE: a try of a transfer, the ABORT after it, whose answer is ignored, or a call that is no transfer.
 pub const MODE: usize = 0;
@@ -39,6 +40,9 @@ pub const TRYING: u32 = 0;
 pub const ABORTING: u32 = 1;
 
 pub const RAW: u32 = 2;
+
+// The ack that asks for the same transfer again.
+pub const WAIT: u8 = 2;
 
 // A transfer is tried so often: the first time and the Rust's 64 retries.
 pub const MOST: u32 = 65;

@@ -1,34 +1,14 @@
--- Each arm is its row of the table; the numbers behind them are a later group's.
-use mathlib.Core.Path.{refl}
-use Rattle.abi_calls.specs.Given.{engine_call_of}
+-- A number past the table has no row.
+use Rattle.std.specs.Prelude.{◌≡◌, ◌≤◌, refl}
+use Rattle.std.proofs.Common.{arith}
+use Rattle.wire.specs.Laws.Rows.{past}
+use Rattle.abi_calls.specs.Given.{rows, engine_call_of}
 use Rattle.abi_calls.proofs.engine_call_of.Goals as goal
 
-pub returns-in-0 : goal.returns-in-0
+pub returns-in_default : goal.returns-in_default
 unfolding engine_call_of
-returns-in-0 c =
-    rw c.in-0.is refl
+returns-in_default c = let z : c.args.number ≡ 0 = omega arith in rw z refl
 
-pub returns-in-1 : goal.returns-in-1
+pub returns-in_default-2 : goal.returns-in_default-2
 unfolding engine_call_of
-returns-in-1 c =
-    rw c.in-1.is (rw c.word.ensures at c.connect.ensures)
-
-pub returns-in-2 : goal.returns-in-2
-unfolding engine_call_of
-returns-in-2 c =
-    rw c.in-2.is c.connect-in-2.ensures
-
-pub returns-in-3 : goal.returns-in-3
-unfolding engine_call_of
-returns-in-3 c =
-    rw c.in-3.is c.connect-in-3.ensures
-
-pub returns-in-4 : goal.returns-in-4
-unfolding engine_call_of
-returns-in-4 c =
-    rw c.in-4.is (rw c.word-in-4.ensures at c.connect-in-4.ensures)
-
-pub returns-in-5 : goal.returns-in-5
-unfolding engine_call_of
-returns-in-5 c =
-    rw c.in-5.is (rw c.word-in-5.ensures at c.connect-in-5.ensures)
+returns-in_default-2 c = let h : 36 ≤ c.args.number = omega arith in past (rows c.args.args.now) _ _ h

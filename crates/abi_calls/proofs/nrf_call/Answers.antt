@@ -1,44 +1,81 @@
--- Each arm is its row of the table; a number past them has no row.
-use Rattle.wire.specs.Laws.Rows.{past, from_least}
-use Rattle.abi_calls.specs.Given.{rows, engine_call_of}
+-- Each arm is its row of the table; no arm is left where the words are fewer or more than a row takes.
+use Rattle.std.proofs.Common.{arith}
+use Rattle.abi_calls.specs.Given.{engine_call_of}
+use Rattle.abi_calls.proofs.Rows.{fits, short, long}
 use Rattle.abi_calls.proofs.nrf_call.Goals as goal
 
-pub returns-in-29 : goal.returns-in-29
+pub returns-in-29-empty : goal.returns-in-29-empty
 unfolding engine_call_of
-returns-in-29 c =
-    rw c.in-29.is c.nrf.ensures
+returns-in-29-empty c = rw c.in-29-empty.is-0 (fits _ (omega arith) c.in-29-empty.len_below)
 
-pub returns-in-30 : goal.returns-in-30
+pub returns-in-30-len1 : goal.returns-in-30-len1
 unfolding engine_call_of
-returns-in-30 c =
-    rw c.in-30.is (rw c.word-w.ensures at c.nrf-in-30.ensures)
+returns-in-30-len1 c = rw c.in-30-len1.is-0 (fits _ c.in-30-len1.len_at_least c.in-30-len1.len_below)
 
-pub returns-in-31 : goal.returns-in-31
+pub returns-in-31-len2 : goal.returns-in-31-len2
 unfolding engine_call_of
-returns-in-31 c =
-    rw c.in-31.is (rw (c.word-w.ensures, c.word-polls.ensures) at c.nrf-in-31.ensures)
+returns-in-31-len2 c = rw c.in-31-len2.is-0 (fits _ c.in-31-len2.len_at_least c.in-31-len2.len_below)
 
-pub returns-in-32 : goal.returns-in-32
+pub returns-in-32-len2 : goal.returns-in-32-len2
 unfolding engine_call_of
-returns-in-32 c =
-    rw c.in-32.is (rw (c.word-w.ensures, c.word-polls.ensures) at c.nrf-in-32.ensures)
+returns-in-32-len2 c = rw c.in-32-len2.is-0 (fits _ c.in-32-len2.len_at_least c.in-32-len2.len_below)
 
-pub returns-in-33 : goal.returns-in-33
+pub returns-in-33-empty : goal.returns-in-33-empty
 unfolding engine_call_of
-returns-in-33 c =
-    rw c.in-33.is c.nrf-in-33.ensures
+returns-in-33-empty c = rw c.in-33-empty.is-0 (fits _ (omega arith) c.in-33-empty.len_below)
 
-pub returns-in-34 : goal.returns-in-34
+pub returns-in-34-len1 : goal.returns-in-34-len1
 unfolding engine_call_of
-returns-in-34 c =
-    rw c.in-34.is (rw c.word-w.ensures at c.nrf-in-34.ensures)
+returns-in-34-len1 c = rw c.in-34-len1.is-0 (fits _ c.in-34-len1.len_at_least c.in-34-len1.len_below)
 
-pub returns-in-35 : goal.returns-in-35
+pub returns-in-35-len2 : goal.returns-in-35-len2
 unfolding engine_call_of
-returns-in-35 c =
-    rw c.in-35.is (rw (c.word-w.ensures, c.word-polls.ensures) at c.nrf-in-35.ensures)
+returns-in-35-len2 c = rw c.in-35-len2.is-0 (fits _ c.in-35-len2.len_at_least c.in-35-len2.len_below)
 
 pub returns-in_default : goal.returns-in_default
 unfolding engine_call_of
-returns-in_default c =
-    past (rows c.args.a.now) _ _ (from_least 29 7 _ c.requires c.in_default.in_default-own.rest)
+returns-in_default c = rw c.in_default.is-0 (long _ c.in_default.len_at_least)
+
+pub returns-in_default-2 : goal.returns-in_default-2
+unfolding engine_call_of
+returns-in_default-2 c = rw c.in_default.is-0 (short _ c.in_default.len_below)
+
+pub returns-in_default-3 : goal.returns-in_default-3
+unfolding engine_call_of
+returns-in_default-3 c = rw c.in_default.is-0 (long _ c.in_default.len_at_least)
+
+pub returns-in_default-4 : goal.returns-in_default-4
+unfolding engine_call_of
+returns-in_default-4 c = rw c.in_default.is-0 (short _ c.in_default.len_below)
+
+pub returns-in_default-5 : goal.returns-in_default-5
+unfolding engine_call_of
+returns-in_default-5 c = rw c.in_default.is-0 (long _ c.in_default.len_at_least)
+
+pub returns-in_default-6 : goal.returns-in_default-6
+unfolding engine_call_of
+returns-in_default-6 c = rw c.in_default.is-0 (short _ c.in_default.len_below)
+
+pub returns-in_default-7 : goal.returns-in_default-7
+unfolding engine_call_of
+returns-in_default-7 c = rw c.in_default.is-0 (long _ c.in_default.len_at_least)
+
+pub returns-in_default-8 : goal.returns-in_default-8
+unfolding engine_call_of
+returns-in_default-8 c = rw c.in_default.is-0 (long _ c.in_default.len_at_least)
+
+pub returns-in_default-9 : goal.returns-in_default-9
+unfolding engine_call_of
+returns-in_default-9 c = rw c.in_default.is-0 (short _ c.in_default.len_below)
+
+pub returns-in_default-10 : goal.returns-in_default-10
+unfolding engine_call_of
+returns-in_default-10 c = rw c.in_default.is-0 (long _ c.in_default.len_at_least)
+
+pub returns-in_default-11 : goal.returns-in_default-11
+unfolding engine_call_of
+returns-in_default-11 c = rw c.in_default.is-0 (short _ c.in_default.len_below)
+
+pub returns-in_default-12 : goal.returns-in_default-12
+unfolding engine_call_of
+returns-in_default-12 c = rw c.in_default.is-0 (long _ c.in_default.len_at_least)

@@ -1,14 +1,11 @@
 -- What is taken at once is a step; and what is told of the words is the engine's answer. Serves the proofs only.
-use Rattle.std.specs.Prelude.{ℕ, ◌%◌, Bool, true, false, List, [], ◌≡◌, refl, length, get_or, replicate}
+use Rattle.std.specs.Prelude.{ℕ, Bool, true, false, List, [], ◌≡◌, refl, length, get_or, replicate, Ok}
 use Rattle.std.proofs.Common.{true≢false, sym, ap, subst, ◌∙◌}
 use Rattle.wire.specs.Bytes.{padded}
 use Rattle.wire.specs.Laws.Told.{outcome_of}
-use Rattle.wire.specs.declared.Answer.{Answer}
-use Rattle.wire.specs.declared.Answer.TheVariants.{Good}
+use Rattle.wire.specs.Outcomes.{Answer}
 use Rattle.wire.specs.declared.Call.{Call}
-use Rattle.wire.specs.declared.Call.TheVariants.{Transfer}
-use Rattle.wire_transfer.specs.Laws.Flight.{call_of, transfer_of}
-use Rattle.wire_numbers.specs.Log.{answer_at}
+use Rattle.wire_transfer.specs.Laws.Flight.{transfer_of}
 use Rattle.wire_numbers.specs.Numbers.{numbers_of}
 use Rattle.wire_numbers.specs.Results.{result_of}
 use Rattle.wire_numbers.specs.declared.CallEnding.{CallEnding}
@@ -64,17 +61,17 @@ module _ {s : State} {ws₀ ws : List ℕ} (k : KeepsState s ws₀ ws) where
 
 -- a value that was tried: taken
 module _ (v : ℕ) (ws₀ room₀ : List ℕ) {r : Bool} {t₀ m₀ c₀ t m room : List ℕ} (ht : t₀ ≡ words_from 7 3 ws₀) (hm : m₀ ≡ words_from 12 10 ws₀)
-    (hc : c₀ ≡ words_from 9 22 ws₀) (g : TriesIn (Good v) r t₀ m₀ c₀ room₀ t m room) where
-  tried : TriesIn (Good v) r (words_from 7 3 ws₀) (words_from 12 10 ws₀) (words_from 9 22 ws₀) room₀ t m room
+    (hc : c₀ ≡ words_from 9 22 ws₀) (g : TriesIn (Ok v) r t₀ m₀ c₀ room₀ t m room) where
+  tried : TriesIn (Ok v) r (words_from 7 3 ws₀) (words_from 12 10 ws₀) (words_from 9 22 ws₀) room₀ t m room
   tried =
-      subst (λ (l : List ℕ). TriesIn (Good v) r (words_from 7 3 ws₀) (words_from 12 10 ws₀) l room₀ t m room) hc
-      (subst (λ (l : List ℕ). TriesIn (Good v) r (words_from 7 3 ws₀) l c₀ room₀ t m room) hm
-      (subst (λ (l : List ℕ). TriesIn (Good v) r l m₀ c₀ room₀ t m room) ht g))
+      subst (λ (l : List ℕ). TriesIn (Ok v) r (words_from 7 3 ws₀) (words_from 12 10 ws₀) l room₀ t m room) hc
+      (subst (λ (l : List ℕ). TriesIn (Ok v) r (words_from 7 3 ws₀) l c₀ room₀ t m room) hm
+      (subst (λ (l : List ℕ). TriesIn (Ok v) r l m₀ c₀ room₀ t m room) ht g))
 
   pub takes_one : {ws : List ℕ} → r ≡ true
-      → (length ws₀ ≡ 64 → KeepsState (record { transfer = t; op = m; call = words_from 9 22 ws₀ }) ws₀ ws) → Takes (Good v) true ws₀ room₀ ws room
+      → (length ws₀ ≡ 64 → KeepsState (record { transfer = t; op = m; call = words_from 9 22 ws₀ }) ws₀ ws) → Takes (Ok v) true ws₀ room₀ ws room
   takes_one e k = record {
-    moved = λ _ h words b. as_kept (k h) (λ x y z. SteppedIn (Good v) (words_from 7 3 ws₀) (words_from 12 10 ws₀) (words_from 9 22 ws₀) room₀ words b x y z room words b)
+    moved = λ _ h words b. as_kept (k h) (λ x y z. SteppedIn (Ok v) (words_from 7 3 ws₀) (words_from 12 10 ws₀) (words_from 9 22 ws₀) room₀ words b x y z room words b)
         (tried.moved e words b);
     ran = λ _. tried.goes e;
     runs = λ _ h. as_kept (k h) (λ _ _ z. running z ≡ true) (tried.goes e);
@@ -83,7 +80,7 @@ module _ (v : ℕ) (ws₀ room₀ : List ℕ) {r : Bool} {t₀ m₀ c₀ t m roo
   }
 
   -- or not
-  pub takes_none : r ≡ false → Takes (Good v) false ws₀ room₀ ws₀ room
+  pub takes_none : r ≡ false → Takes (Ok v) false ws₀ room₀ ws₀ room
   takes_none e = record {
     moved = λ e. absurd (true≢false (sym e));
     ran = λ e. absurd (true≢false (sym e));
@@ -92,24 +89,9 @@ module _ (v : ℕ) (ws₀ room₀ : List ℕ) {r : Bool} {t₀ m₀ c₀ t m roo
     stays = λ _. (refl, (tried.stays e).2);
   }
 
--- an answer that is no value is not tried
-pub takes_no_answer : (a : Answer) (ws room : List ℕ) → Takes a false ws room ws room
-takes_no_answer a ws room = record {
-  moved = λ e. absurd (true≢false (sym e));
-  ran = λ e. absurd (true≢false (sym e));
-  runs = λ e. absurd (true≢false (sym e));
-  kept = λ e. absurd (true≢false (sym e));
-  stays = λ _. (refl, refl);
-}
-
--- 01's code 0 is a value
-pub takes_value : (code value : ℕ) {r : Bool} {ws₀ room₀ ws room : List ℕ} → code ≡ 0 → Takes (Good value) r ws₀ room₀ ws room
-    → Takes (answer_at code value) r ws₀ room₀ ws room
-takes_value code value {r} {ws₀} {room₀} {ws} {room} e g = subst (λ (n : ℕ). Takes (answer_at n value) r ws₀ room₀ ws room) (sym e) g
-
 -- what is told of words is what their state answers
 pub record Tells (ws next bytes : List ℕ) : Type 0 where
-  pub said : NextStep
+  pub said : NextStep CallEnding
   pub numbers : next ≡ step_numbers said
   pub answers : Answers (words_from 7 3 ws) (words_from 12 10 ws) (words_from 9 22 ws) (record { next = said; state = state_of ws; bytes = bytes })
 
@@ -169,20 +151,12 @@ steps_none hc hr e g = record {
   none = λ _. record { tells = g; words = refl; lent = refl };
 }
 
--- a step that was taken at once, and one that was not
+-- a step that was taken at once
 module _ {a : Answer} {r : Bool} {ws₀ room₀ ws₁ room₁ : List ℕ} (g : Takes a r ws₀ room₀ ws₁ room₁) where
   pub at_once : {words b next bytes : List ℕ} → r ≡ true → length ws₀ ≡ 64 → Told (transfer_of (words_from 7 3 ws₁)).call next bytes
       → EngineStepped a ws₀ (lending room₀ words b) ws₁ next bytes (lending room₁ words b)
   at_once {words} {b} {next} {bytes} e h t =
       under_way_lem (g.ran e) (steps_say (g.moved e h words b) (g.kept e h) (tells_due ws₁ next bytes (g.runs e h) t))
-
-  pub not_at_once : {words₀ b₀ ws room words b next bytes : List ℕ} → r ≡ false → length ws₀ ≡ 64
-      → (length ws₁ ≡ 64 → EngineStepped a ws₁ (lending room₁ words₀ b₀) ws next bytes (lending room words b))
-      → EngineStepped a ws₀ (lending room₀ words₀ b₀) ws next bytes (lending room words b)
-  not_at_once {words₀} {b₀} {ws} {room} {words} {b} {next} {bytes} e h f = let q = g.stays e in
-      subst (λ (l : List ℕ). EngineStepped a l (lending room₀ words₀ b₀) ws next bytes (lending room words b)) q.0
-      (subst (λ (l : List ℕ). EngineStepped a ws₁ (lending l words₀ b₀) ws next bytes (lending room words b)) q.1
-      (f (ap length q.0 ∙ h)))
 
 -- a step by the engine's own
 pub steps_by : {a : Answer} {ws₀ room₀ words₀ b₀ t₀ m₀ c₀ t m c ws room words b next bytes : List ℕ} {r : Bool} → t₀ ≡ words_from 7 3 ws₀
@@ -197,11 +171,7 @@ steps_by {a} {ws₀} {room₀} {words₀} {b₀} {t₀} {m₀} {c₀} {t} {m} {c
     (subst (λ (l : List ℕ). SteppedIn a l m₀ c₀ room₀ words₀ b₀ t m c room words b) ht g))))
     (kept_as k) h)
 
--- the transport call in flight, by its words, and as the arm of a match has it
-pub told_as : (ws : List ℕ) {t : List ℕ} {x y : Call} {next bytes : List ℕ} → t ≡ words_from 7 3 ws → x ≡ (transfer_of t).call → x ≡ y → Told y next bytes
+-- the transport call in flight, by its words
+pub told_as : (ws : List ℕ) {t : List ℕ} {x : Call} {next bytes : List ℕ} → t ≡ words_from 7 3 ws → x ≡ (transfer_of t).call → Told x next bytes
     → Told (transfer_of (words_from 7 3 ws)).call next bytes
-told_as ws {next = next} {bytes} e h g k = subst (λ (z : Call). Told z next bytes) (sym g ∙ h ∙ ap (λ (l : List ℕ). (transfer_of l).call) e) k
-
-pub told_transfer_at : (ws : List ℕ) {next bytes : List ℕ} → get_or ws 5 0 ≡ 0 → Told (Transfer (get_or ws 6 0 % 256) (get_or ws 7 0)) next bytes
-    → Told (transfer_of (words_from 7 3 ws)).call next bytes
-told_transfer_at ws {next} {bytes} e k = subst (λ (z : Call). Told z next bytes) (ap (λ (n : ℕ). call_of n (get_or ws 6 0) (get_or ws 8 0) (get_or ws 7 0)) (sym e)) k
+told_as ws {next = next} {bytes} e h k = subst (λ (z : Call). Told z next bytes) (h ∙ ap (λ (l : List ℕ). (transfer_of l).call) e) k

@@ -1,14 +1,14 @@
 -- Calls 12, 14, 32 and 35 write nothing to what they are lent, so that a caller may lend what he shares.
-use Prim.Native.Nat.{ℕ, zero, suc, ◌+◌, ◌-◌, ◌*◌, ◌/◌, ◌%◌}
-use Rattle.std.specs.Prelude.{Bool, true, false, cond, List, ◌≡◌, eqb, leb, length}
+use Prim.Native.Nat.{ℕ, zero, suc, ◌+◌, ◌-◌, ◌*◌, ◌%◌}
+use Rattle.std.specs.Prelude.{Bool, true, false, cond, List, ◌≡◌, eqb, leb, length, Ok, Err}
 use Rattle.std.proofs.Math.Path.{refl}
 use Rattle.wire.specs.Wire.{Wire, Memory}
-use Rattle.wire.specs.declared.Answer.{Answer}
-use Rattle.wire.specs.declared.Answer.TheVariants.{Good, SwdError, NotSupported, Other}
+use Rattle.wire.specs.Outcomes.{Answer}
+use Rattle.wire.specs.declared.DapError.TheVariants.{SwdError, NotSupported, Other}
 use Rattle.wire.specs.declared.ArmError.{ArmError}
+use Rattle.wire.specs.declared.ArmError.TheVariants as F
 use Rattle.wire.specs.declared.Call.{Call}
-use Rattle.wire.specs.declared.Outcome.{Outcome}
-use Rattle.wire.specs.declared.Outcome.TheVariants.{Value, Failed}
+use Rattle.wire.specs.Outcomes.{Outcome}
 use Rattle.wire.specs.declared.Remembered.{Remembered}
 use Rattle.wire_transfer.specs.Transfer.{after_ack, after_answer, tries, transfer}
 use Rattle.wire_memap.specs.Action.{Then, Action, on_value, transferring, remember, remembering}
@@ -22,9 +22,9 @@ use Rattle.call.specs.Change.{changed}
 use Rattle.call.specs.Job.{Job, ends, op, keep, exec, attempt, or_fail, return, just}
 use Rattle.call.specs.Job as J
 use Rattle.call.specs.declared.Change.TheVariants as C
-use Rattle.call_memory.specs.Memory.{turns, turn, moved, whole, run_words, part_bytes, move_words, move_part, memory_job}
+use Rattle.call_memory.specs.Memory.{turns, turn, whole, memory_job}
 use Rattle.call_memory.specs.declared.MemoryCall.TheVariants as M
-use Rattle.call_nrf.specs.Nrf.{wait_ready, runs, nrf_job}
+use Rattle.call_nrf.specs.Nrf.{wait_ready, nvmc_wait, rramc_wait, runs, programmable, nrf_job}
 use Rattle.call_nrf.specs.declared.NrfCall.TheVariants as N
 use Rattle.engine_calls.specs.Calls.{call_tree}
 use Rattle.engine_calls.specs.declared.EngineCall.TheVariants as E
@@ -46,10 +46,10 @@ module _ (Q : Memory → Type 0) (known : (m : Memory) (r : Remembered) → Q m 
 
   frame_answer : (m : Memory) (again : Wire) (k : Outcome → Wire) (a : Answer) → Q m → Everywhere Q again → ((o : Outcome) → Everywhere Q (k o))
       → Everywhere Q (after_answer m again k a)
-  frame_answer m again k (Good v) q a h = h _
-  frame_answer m again k (SwdError ack) q a h = frame_ack (eqb ack 2) m again k ack q a h
-  frame_answer m again k NotSupported q a h = (q, h _)
-  frame_answer m again k Other q a h = (q, h _)
+  frame_answer m again k (Ok v) q a h = h _
+  frame_answer m again k (Err (SwdError ack)) q a h = frame_ack (eqb ack 2) m again k ack q a h
+  frame_answer m again k (Err NotSupported) q a h = (q, h _)
+  frame_answer m again k (Err Other) q a h = (q, h _)
 
   frame_tries : (n : ℕ) (m : Memory) (c : Call) (k : Outcome → Wire) → Q m → ((o : Outcome) → Everywhere Q (k o)) → Everywhere Q (tries n m c k)
   unfolding tries
@@ -61,17 +61,17 @@ module _ (Q : Memory → Type 0) (known : (m : Memory) (r : Remembered) → Q m 
   frame_transfer request word k m q f = frame_tries 65 m _ (k m) q (λ o. f m o q)
 
   frame_return : (v : ℕ) → Frames (A.return v)
-  frame_return v k m q f = f m (Value v) q
+  frame_return v k m q f = f m (Ok v) q
 
   frame_next : (g : ℕ → Action) → ((v : ℕ) → Frames (g v)) → (k : Then) → Fine k → Fine (on_value g k)
-  frame_next g h k f m (Value v) q = h v k m q f
-  frame_next g h k f m (Failed e) q = f m (Failed e) q
+  frame_next g h k f m (Ok v) q = h v k m q f
+  frame_next g h k f m (Err e) q = f m (Err e) q
 
   frame_bind : (p : Action) (g : ℕ → Action) → Frames p → ((v : ℕ) → Frames (g v)) → Frames (A.◌>>=◌ p g)
   frame_bind p g hp hg k m q f = hp (on_value g k) m q (frame_next g hg k f)
 
   frame_remember : (g : Remembered → Remembered) → Frames (remember g)
-  frame_remember g k m q f = f (remembering m (g m.remembered)) (Value 0) (known m _ q)
+  frame_remember g k m q f = f (remembering m (g m.remembered)) (Ok 0) (known m _ q)
 
   frame_cond : (b : Bool) (p r : Action) → Frames p → Frames r → Frames (cond b p r)
   frame_cond true p r hp hr = hp
@@ -124,8 +124,8 @@ module _ (Q : Memory → Type 0) (known : (m : Memory) (r : Remembered) → Q m 
 
   keeps_either : (good : ℕ → Job) (bad : ArmError → Job) → ((v : ℕ) (m : Memory) → Q m → Everywhere Q (exec (good v) m))
       → ((e : ArmError) (m : Memory) → Q m → Everywhere Q (exec (bad e) m)) → Fine (J.either (λ v. exec (good v)) (λ e. exec (bad e)))
-  keeps_either good bad g b m (Value v) q = g v m q
-  keeps_either good bad g b m (Failed e) q = b e m q
+  keeps_either good bad g b m (Ok v) q = g v m q
+  keeps_either good bad g b m (Err e) q = b e m q
 
   keeps_exec : (j : Job) → Keeps j → (m : Memory) → Q m → Everywhere Q (exec j m)
   unfolding exec
@@ -143,8 +143,8 @@ module _ (Q : Memory → Type 0) (known : (m : Memory) (r : Remembered) → Q m 
   keeps_then j k g h = keeps_attempt j (or_fail k) g by_outcome
     where
       by_outcome : (o : Outcome) → Keeps (or_fail k o)
-      by_outcome (Value v) = h v
-      by_outcome (Failed e) = tt
+      by_outcome (Ok v) = h v
+      by_outcome (Err e) = tt
 
   keeps_cond : (b : Bool) (i j : Job) → Keeps i → Keeps j → Keeps (cond b i j)
   keeps_cond true i j g h = g
@@ -156,14 +156,64 @@ module _ (Q : Memory → Type 0) (known : (m : Memory) (r : Remembered) → Q m 
   keeps_wait : (ready n : ℕ) → Keeps (wait_ready ready n)
   unfolding wait_ready
   keeps_wait ready zero = tt
-  keeps_wait ready (suc n) = keeps_then (just (O.ReadWord ready)) (λ x'. cond (eqb (x' % 2) 1) (return 0) (wait_ready ready n)) (keeps_just _ (frame_read ready)) (λ v. keeps_cond (eqb (v % 2) 1) (return 0) _ tt (keeps_wait ready n))
+  keeps_wait ready (suc n) = (frame_read ready, (λ v. keeps_cond (eqb (v % 2) 1) (return 0) _ tt (keeps_wait ready n)), (λ e. tt))
 
   keeps_runs : (settle : Job) → Keeps settle → (stop len left passed : ℕ) → Keeps (runs settle stop len left passed)
   unfolding runs
   keeps_runs settle h stop len zero passed = tt
   keeps_runs settle h stop len (suc left) (suc passed) = keeps_runs settle h stop len left passed
   keeps_runs settle h stop len (suc left) zero =
-      keeps_then (just (O.WriteWords (stop - 4 * suc left) (W.tar_run (stop - 4 * suc left) (suc left)) (len - suc left + (W.tar_run (stop - 4 * suc left) (suc left) - 1)))) _ (keeps_just _ (frame_words (stop - 4 * suc left) (W.tar_run (stop - 4 * suc left) (suc left)) (len - suc left + (W.tar_run (stop - 4 * suc left) (suc left) - 1)))) (λ _. keeps_then _ _ h (λ _. keeps_runs settle h stop len left (W.tar_run (stop - 4 * suc left) (suc left) - 1)))
+      (frame_words _ _ _, (λ v. keeps_then settle _ h (λ _. keeps_runs settle h stop len left _)), (λ e. tt))
+
+  keeps_programmable : (addr n : ℕ) (j : Job) → Keeps j → Keeps (programmable addr n j)
+  keeps_programmable addr n j h =
+      keeps_cond (eqb n 0) (return 0) _ tt
+      (keeps_cond (eqb (addr % 4) 0) _ (J.fail F.Align) (keeps_cond (leb 0x100000000 (addr + 4 * n)) (J.fail F.Range) j tt h) tt)
+
+  -- calls 12, 32 and 35
+  keeps_write_words : (addr n bytes : ℕ) → Keeps (memory_job (M.WriteWords addr) n bytes)
+  unfolding memory_job
+  keeps_write_words addr n bytes =
+      keeps_cond (leb 0x100000000 n) (J.fail F.Range) _ tt (keeps_cond (eqb n 0) (return 0) _ tt (keeps_just _ (frame_words addr n (n - 1))))
+
+  keeps_nrf52_program : (addr polls n : ℕ) → Keeps (nrf_job (N.Nrf52Program addr polls) n)
+  unfolding nrf_job
+  keeps_nrf52_program addr polls n = keeps_programmable addr n _ (
+    frame_word _ _,
+    (λ v. keeps_then (nvmc_wait polls) _ (keeps_wait _ polls)
+        (λ v. keeps_then (runs (nvmc_wait polls) (addr + 4 * n) n n 0) _ (keeps_runs _ (keeps_wait _ polls) _ n n 0)
+        (λ v. (frame_word _ _, (λ v. tt), (λ e. tt))))),
+    (λ e. tt),
+  )
+
+  keeps_nrf54_program : (addr polls n : ℕ) → Keeps (nrf_job (N.Nrf54Program addr polls) n)
+  unfolding nrf_job
+  keeps_nrf54_program addr polls n = keeps_programmable addr n _ (
+    frame_word _ _,
+    (λ v. keeps_then (runs (return 0) (addr + 4 * n) n n 0) _ (keeps_runs _ tt _ n n 0)
+        (λ v. (frame_word _ _, (λ v. keeps_then (rramc_wait polls) _ (keeps_wait _ polls) (λ v. (frame_word _ _, (λ v. tt), (λ e. tt)))), (λ e. tt)))),
+    (λ e. tt),
+  )
+
+  -- call 14, where what it takes from the buffer keeps it
+  module _ (loads : (at n : ℕ) (m : Memory) → Q m → Q (changed (C.LoadWords at n) m))
+      (patches : (at first count v : ℕ) (m : Memory) → Q m → Q (changed (C.Patch at first count v) m)) where
+    keeps_turn : (a at left : ℕ) → Keeps (turn false a at left)
+    keeps_turn a at left = keeps_cond (whole a left) _ _
+        (loads at _, keeps_just _ (frame_words a _ _))
+        (frame_read _, (λ v. (patches at _ _ v, keeps_just _ (frame_words _ 1 0))), (λ e. tt))
+
+    keeps_turns : (fuel stop len left : ℕ) → Keeps (turns fuel false stop len left)
+    unfolding turns
+    keeps_turns zero stop len left = tt
+    keeps_turns (suc fuel) stop len left =
+        keeps_cond (eqb left 0) (return 0) _ tt
+        (keeps_then (turn false (stop - left) (len - left) left) _ (keeps_turn (stop - left) (len - left) left) (λ v. keeps_turns fuel stop len _))
+
+    keeps_write_mem : (addr n bytes : ℕ) → Keeps (memory_job (M.WriteMem addr) n bytes)
+    unfolding memory_job
+    keeps_write_mem addr n bytes =
+        keeps_cond (leb 0x100000000 (addr + bytes)) (J.fail F.Range) _ tt (keeps_turns bytes (addr + bytes) bytes bytes)
 
 -- the words of calls 12, 32 and 35
 module _ (words : List ℕ) where
@@ -174,25 +224,13 @@ module _ (words : List ℕ) where
   known m r q = q
 
   pub write_words_shares : (addr : ℕ) (r : Remembered) (room buf : List ℕ) → Everywhere Same (call_tree (E.Memory (M.WriteWords addr)) r room words buf)
-  unfolding memory_job
-  write_words_shares addr r room buf = keeps_exec Same known (memory_job (M.WriteWords addr) (length words) (length buf))
-      (keeps_cond Same known (leb 4294967296 (length {A = ℕ} words)) (J.fail Rattle.wire.specs.declared.ArmError.TheVariants.Range) (cond (eqb (length {A = ℕ} words) 0) (return 0) (just (O.WriteWords addr (length {A = ℕ} words) (length {A = ℕ} words - 1)))) tt (keeps_cond Same known (eqb (length {A = ℕ} words) 0) (return 0) (just (O.WriteWords addr (length {A = ℕ} words) (length {A = ℕ} words - 1))) tt (keeps_just Same known _ (frame_words Same known addr (length {A = ℕ} words) (length {A = ℕ} words - 1))))) _ refl
+  write_words_shares addr r room buf = keeps_exec Same known _ (keeps_write_words Same known addr (length words) (length buf)) _ refl
 
   pub nrf52_program_shares : (addr polls : ℕ) (r : Remembered) (room buf : List ℕ) → Everywhere Same (call_tree (E.Nrf (N.Nrf52Program addr polls)) r room words buf)
-  unfolding nrf_job
-  nrf52_program_shares addr polls r room buf = keeps_exec Same known (nrf_job (N.Nrf52Program addr polls) (length words))
-      (keeps_cond Same known (eqb (length {A = ℕ} words) 0) (return 0) (cond (eqb (addr % 4) 0) (cond (leb 4294967296 (addr + 4 * length {A = ℕ} words)) (J.fail Rattle.wire.specs.declared.ArmError.TheVariants.Range) (J.◌>>=◌ (just (O.WriteWord 1073865988 1)) (λ x'. J.◌>>=◌ (wait_ready 1073865728 polls) (λ x''. J.◌>>=◌ (runs (wait_ready 1073865728 polls) (addr + 4 * length {A = ℕ} words) (length {A = ℕ} words) (length {A = ℕ} words) 0) (λ x3. J.◌>>=◌ (just (O.WriteWord 1073865988 0)) (λ x4. return 0)))))) (J.fail Rattle.wire.specs.declared.ArmError.TheVariants.Align)) tt (keeps_cond Same known (eqb (addr % 4) 0) (cond (leb 4294967296 (addr + 4 * length {A = ℕ} words)) (J.fail Rattle.wire.specs.declared.ArmError.TheVariants.Range) (J.◌>>=◌ (just (O.WriteWord 1073865988 1)) (λ x'. J.◌>>=◌ (wait_ready 1073865728 polls) (λ x''. J.◌>>=◌ (runs (wait_ready 1073865728 polls) (addr + 4 * length {A = ℕ} words) (length {A = ℕ} words) (length {A = ℕ} words) 0) (λ x3. J.◌>>=◌ (just (O.WriteWord 1073865988 0)) (λ x4. return 0)))))) (J.fail Rattle.wire.specs.declared.ArmError.TheVariants.Align) (keeps_cond Same known (leb 4294967296 (addr + 4 * length {A = ℕ} words)) (J.fail Rattle.wire.specs.declared.ArmError.TheVariants.Range) (J.◌>>=◌ (just (O.WriteWord 1073865988 1)) (λ x'. J.◌>>=◌ (wait_ready 1073865728 polls) (λ x''. J.◌>>=◌ (runs (wait_ready 1073865728 polls) (addr + 4 * length {A = ℕ} words) (length {A = ℕ} words) (length {A = ℕ} words) 0) (λ x3. J.◌>>=◌ (just (O.WriteWord 1073865988 0)) (λ x4. return 0))))) tt
-      (keeps_then Same known (just (O.WriteWord 1073865988 1)) _ (keeps_just Same known _ (frame_word Same known 1073865988 1)) (λ _. keeps_then Same known _ _ (keeps_wait Same known 1073865728 polls)
-      (λ _. keeps_then Same known _ (λ x'. J.◌>>=◌ (just (O.WriteWord 1073865988 0)) (λ x''. return 0)) (keeps_runs Same known _ (keeps_wait Same known 1073865728 polls) (addr + 4 * length {A = ℕ} words) (length {A = ℕ} words) (length {A = ℕ} words) 0)
-      (λ _. keeps_then Same known (just (O.WriteWord 1073865988 0)) (λ x'. return 0) (keeps_just Same known _ (frame_word Same known 1073865988 0)) (λ _. tt)))))) tt)) _ refl
+  nrf52_program_shares addr polls r room buf = keeps_exec Same known _ (keeps_nrf52_program Same known addr polls (length words)) _ refl
 
   pub nrf54_program_shares : (addr polls : ℕ) (r : Remembered) (room buf : List ℕ) → Everywhere Same (call_tree (E.Nrf (N.Nrf54Program addr polls)) r room words buf)
-  unfolding nrf_job
-  nrf54_program_shares addr polls r room buf = keeps_exec Same known (nrf_job (N.Nrf54Program addr polls) (length words))
-      (keeps_cond Same known (eqb (length {A = ℕ} words) 0) (return 0) (cond (eqb (addr % 4) 0) (cond (leb 4294967296 (addr + 4 * length {A = ℕ} words)) (J.fail Rattle.wire.specs.declared.ArmError.TheVariants.Range) (J.◌>>=◌ (just (O.WriteWord 1074050304 1)) (λ x'. J.◌>>=◌ (runs (return 0) (addr + 4 * length {A = ℕ} words) (length {A = ℕ} words) (length {A = ℕ} words) 0) (λ x''. J.◌>>=◌ (just (O.WriteWord 1074049032 1)) (λ x3. J.◌>>=◌ (wait_ready 1074050048 polls) (λ x4. J.◌>>=◌ (just (O.WriteWord 1074050304 0)) (λ x5. return 0))))))) (J.fail Rattle.wire.specs.declared.ArmError.TheVariants.Align)) tt (keeps_cond Same known (eqb (addr % 4) 0) (cond (leb 4294967296 (addr + 4 * length {A = ℕ} words)) (J.fail Rattle.wire.specs.declared.ArmError.TheVariants.Range) (J.◌>>=◌ (just (O.WriteWord 1074050304 1)) (λ x'. J.◌>>=◌ (runs (return 0) (addr + 4 * length {A = ℕ} words) (length {A = ℕ} words) (length {A = ℕ} words) 0) (λ x''. J.◌>>=◌ (just (O.WriteWord 1074049032 1)) (λ x3. J.◌>>=◌ (wait_ready 1074050048 polls) (λ x4. J.◌>>=◌ (just (O.WriteWord 1074050304 0)) (λ x5. return 0))))))) (J.fail Rattle.wire.specs.declared.ArmError.TheVariants.Align) (keeps_cond Same known (leb 4294967296 (addr + 4 * length {A = ℕ} words)) (J.fail Rattle.wire.specs.declared.ArmError.TheVariants.Range) (J.◌>>=◌ (just (O.WriteWord 1074050304 1)) (λ x'. J.◌>>=◌ (runs (return 0) (addr + 4 * length {A = ℕ} words) (length {A = ℕ} words) (length {A = ℕ} words) 0) (λ x''. J.◌>>=◌ (just (O.WriteWord 1074049032 1)) (λ x3. J.◌>>=◌ (wait_ready 1074050048 polls) (λ x4. J.◌>>=◌ (just (O.WriteWord 1074050304 0)) (λ x5. return 0)))))) tt
-      (keeps_then Same known (just (O.WriteWord 1074050304 1)) _ (keeps_just Same known _ (frame_word Same known 1074050304 1)) (λ _. keeps_then Same known _ (λ x'. J.◌>>=◌ (just (O.WriteWord 1074049032 1)) (λ x''. J.◌>>=◌ (wait_ready 1074050048 polls) (λ x3. J.◌>>=◌ (just (O.WriteWord 1074050304 0)) (λ x4. return 0)))) (keeps_runs Same known (return 0) tt (addr + 4 * length {A = ℕ} words) (length {A = ℕ} words) (length {A = ℕ} words) 0)
-      (λ _. keeps_then Same known (just (O.WriteWord 1074049032 1)) _ (keeps_just Same known _ (frame_word Same known 1074049032 1)) (λ _. keeps_then Same known _ (λ x'. J.◌>>=◌ (just (O.WriteWord 1074050304 0)) (λ x''. return 0)) (keeps_wait Same known 1074050048 polls)
-      (λ _. keeps_then Same known (just (O.WriteWord 1074050304 0)) (λ x'. return 0) (keeps_just Same known _ (frame_word Same known 1074050304 0)) (λ _. tt))))))) tt)) _ refl
+  nrf54_program_shares addr polls r room buf = keeps_exec Same known _ (keeps_nrf54_program Same known addr polls (length words)) _ refl
 
 -- the buffer of call 14
 module _ (buf : List ℕ) where
@@ -202,29 +240,6 @@ module _ (buf : List ℕ) where
   known_buf : (m : Memory) (r : Remembered) → SameBuf m → SameBuf (remembering m r)
   known_buf m r q = q
 
-  keeps_words : (a at n : ℕ) → Keeps SameBuf known_buf (move_words false a at n)
-  keeps_words a at n = ((λ m q. q), keeps_just SameBuf known_buf (O.WriteWords a n (n - 1)) (frame_words SameBuf known_buf a n (n - 1)))
-
-  keeps_part : (a at count : ℕ) → Keeps SameBuf known_buf (move_part false a at count)
-  keeps_part a at count = let word : ℕ = a - a % 4 in
-      keeps_then SameBuf known_buf (just (O.ReadWord word)) (λ v. keep (C.Patch at (a % 4) count v) (just (O.WriteWords word 1 0)))
-      (keeps_just SameBuf known_buf (O.ReadWord word) (frame_read SameBuf known_buf word))
-      (λ v. ((λ m q. q), keeps_just SameBuf known_buf (O.WriteWords word 1 0) (frame_words SameBuf known_buf word 1 0)))
-
-  keeps_turn : (a at left : ℕ) → Keeps SameBuf known_buf (turn false a at left)
-  keeps_turn a at left = keeps_cond SameBuf known_buf (whole a left) (move_words false a at (run_words a (left / 4)))
-      (move_part false a at (part_bytes a left)) (keeps_words a at (run_words a (left / 4))) (keeps_part a at (part_bytes a left))
-
-  keeps_turns : (fuel stop len left : ℕ) → Keeps SameBuf known_buf (turns fuel false stop len left)
-  unfolding turns
-  keeps_turns zero stop len left = tt
-  keeps_turns (suc fuel) stop len left =
-      let next : ℕ → Job = λ _. turns fuel false stop len (left - moved (stop - left) left) in
-      keeps_cond SameBuf known_buf (eqb left 0) (return 0) (J.◌>>=◌ (turn false (stop - left) (len - left) left) next) tt
-      (keeps_then SameBuf known_buf (turn false (stop - left) (len - left) left) next (keeps_turn (stop - left) (len - left) left)
-      (λ _. keeps_turns fuel stop len (left - moved (stop - left) left)))
-
   pub write_mem_shares : (addr : ℕ) (r : Remembered) (room words : List ℕ) → Everywhere SameBuf (call_tree (E.Memory (M.WriteMem addr)) r room words buf)
-  unfolding memory_job
-  write_mem_shares addr r room words = keeps_exec SameBuf known_buf (memory_job (M.WriteMem addr) (length words) (length buf))
-      (keeps_cond SameBuf known_buf (leb 4294967296 (addr + length {A = ℕ} buf)) (J.fail Rattle.wire.specs.declared.ArmError.TheVariants.Range) _ tt (keeps_turns (length {A = ℕ} buf) (addr + length {A = ℕ} buf) (length {A = ℕ} buf) (length {A = ℕ} buf))) _ refl
+  write_mem_shares addr r room words = keeps_exec SameBuf known_buf _
+      (keeps_write_mem SameBuf known_buf (λ at n m q. q) (λ at first count v m q. q) addr (length words) (length buf)) _ refl

@@ -1,17 +1,16 @@
 -- Where the ignored ABORT stands in a tree: right after a transfer that failed other than by WAIT, and nowhere else. So what the
 -- session sees as lost is what the trace alone shows as lost. Serves the proofs only.
 use Prim.Native.Nat.{ℕ, zero, suc, ◌+◌, ◌-◌}
-use Rattle.std.specs.Prelude.{Bool, not, ◌&&◌, ◌||◌, cond, List, [], ◌∷◌, ◌≡◌, refl, eqb}
+use Rattle.std.specs.Prelude.{Bool, not, ◌&&◌, ◌||◌, cond, List, [], ◌∷◌, ◌≡◌, refl, eqb, Ok, Err}
 use Rattle.std.proofs.Math.Bool.{true, false}
 use Rattle.std.proofs.Common.{ap}
 use Rattle.wire.specs.Wire.{Wire, Memory, done, ask, tell, play}
 use Rattle.wire_transfer.specs.Transfer.{tries, transfer, after_answer, after_ack, raw}
 use Rattle.wire.specs.declared.Call.{Call}
 use Rattle.wire.specs.declared.Call.TheVariants as C
-use Rattle.wire.specs.declared.Answer.{Answer}
-use Rattle.wire.specs.declared.Answer.TheVariants.{Good, SwdError, NotSupported, Other}
-use Rattle.wire.specs.declared.Outcome.{Outcome}
-use Rattle.wire.specs.declared.Outcome.TheVariants.{Value, Failed}
+use Rattle.wire.specs.Outcomes.{Answer}
+use Rattle.wire.specs.declared.DapError.TheVariants.{SwdError, NotSupported, Other}
+use Rattle.wire.specs.Outcomes.{Outcome}
 use Rattle.wire.specs.declared.Remembered.{Remembered}
 use Rattle.wire_memap.specs.Action.{Then, Action, ◌>>=◌, ◌>>◌, return, transferring, remember, on_value}
 use Rattle.wire_memap.specs.Ports.{
@@ -70,11 +69,11 @@ abbrev pub Fine : Action → Type 0
 Fine p = (k : Then) → Goes k → (m : Memory) → Shaped false (p k m)
 
 return_fine : (v : ℕ) → Fine (return v)
-return_fine v k g m = g m (Value v)
+return_fine v k g m = g m (Ok v)
 
 value_goes : (f : ℕ → Action) (k : Then) → ((v : ℕ) → Fine (f v)) → Goes k → Goes (on_value f k)
-value_goes f k h g m (Value v) = h v k g m
-value_goes f k h g m (Failed e) = g m (Failed e)
+value_goes f k h g m (Ok v) = h v k g m
+value_goes f k h g m (Err e) = g m (Err e)
 
 bind_fine : (p : Action) (f : ℕ → Action) → Fine p → ((v : ℕ) → Fine (f v)) → Fine (p >>= f)
 bind_fine p f h i k g m = h (on_value f k) (value_goes f k i g) m
@@ -87,10 +86,10 @@ cond_fine true p q h i = h
 cond_fine false p q h i = i
 
 remember_fine : (f : Remembered → Remembered) → Fine (remember f)
-remember_fine f k g m = g _ (Value 0)
+remember_fine f k g m = g _ (Ok 0)
 
 place_fine : (i v : ℕ) → Fine (place i v)
-place_fine i v k g m = g _ (Value 0)
+place_fine i v k g m = g _ (Ok 0)
 
 module _ (m : Memory) (k : Outcome → Wire) (g : (o : Outcome) → Shaped false (k o)) where
   ack_shaped : (b : Bool) (again : Wire) (ack : ℕ) → Shaped false again → Shaped (not b) (after_ack b m again k ack)
@@ -100,10 +99,10 @@ module _ (m : Memory) (k : Outcome → Wire) (g : (o : Outcome) → Shaped false
 
   answer_shaped : (again : Wire) (a : Answer) → Shaped false again → Shaped (aborts a) (after_answer m again k a)
   unfolding Shaped
-  answer_shaped again (Good v) h = g (Value v)
-  answer_shaped again (SwdError ack) h = ack_shaped (eqb ack 2) again ack h
-  answer_shaped again NotSupported h = g _
-  answer_shaped again Other h = g _
+  answer_shaped again (Ok v) h = g (Ok v)
+  answer_shaped again (Err (SwdError ack)) h = ack_shaped (eqb ack 2) again ack h
+  answer_shaped again (Err NotSupported) h = g _
+  answer_shaped again (Err Other) h = g _
 
   tries_shaped : (n request word : ℕ) → Shaped false (tries n m (C.Transfer request word) k)
   unfolding Shaped tries

@@ -1,19 +1,17 @@
 -- What the progress of a write says of the bytes that Demand3 speaks of. Serves the proofs only.
-use Rattle.std.specs.Prelude.{ℕ, ◌+◌, ◌-◌, ◌≤◌, ◌<◌, Bool, true, false, ◌&&◌, cond, ◌≡◌, refl, List, leb, ltb, length, get_or}
+use Rattle.std.specs.Prelude.{ℕ, ◌+◌, ◌-◌, ◌≤◌, ◌<◌, Bool, true, false, ◌&&◌, cond, ◌≡◌, refl, List, leb, ltb, length, get_or, Option, Some, None}
 use Rattle.std.proofs.Common.{ap, ◌∙◌, arith, le-leb, lt-ltb, le-ltb, leb-true}
 use Rattle.std.proofs.Math.Decide.{dec_lt}
 use Rattle.std.proofs.lemmas.Bool.{lt-leb}
-use Rattle.target.specs.declared.Byte.{Byte}
-use Rattle.target.specs.declared.Byte.TheVariants.{Value, Absent}
 use Rattle.agreement.specs.History.{Made}
 use Rattle.agreement.specs.Demand3.{byte, among, renewed, OldOrNew, old, renew}
 use Rattle.agreement.specs.Laws.Progress.{Progress}
 
 -- the byte at an address of a memory that starts at `base`
-abbrev pub byte_in : ℕ → List ℕ → ℕ → Byte
-byte_in base m a = cond (leb base a && ltb a (base + length m)) (Value (get_or m (a - base) 0)) Absent
+abbrev pub byte_in : ℕ → List ℕ → ℕ → Option ℕ
+byte_in base m a = cond (leb base a && ltb a (base + length m)) (Some (get_or m (a - base) 0)) None
 
-pub byte_in_lem : (base : ℕ) (m : List ℕ) (a : ℕ) → base ≤ a → a < base + length m → byte_in base m a ≡ Value (get_or m (a - base) 0)
+pub byte_in_lem : (base : ℕ) (m : List ℕ) (a : ℕ) → base ≤ a → a < base + length m → byte_in base m a ≡ Some (get_or m (a - base) 0)
 byte_in_lem base m a l h = rw (le-leb _ _ l, lt-ltb _ _ h)
 
 -- one byte of two memories of one size
@@ -22,8 +20,8 @@ same_byte : (base : ℕ) (m n : List ℕ) (a : ℕ) → length m ≡ length n �
 same_byte base m n a e f = rw e (go (leb base a) refl (ltb a (base + length n)))
   where
     go : (x : Bool) → leb base a ≡ x → (y : Bool)
-        → cond (x && y) (Value (get_or m (a - base) 0)) Absent ≡ cond (x && y) (Value (get_or n (a - base) 0)) Absent
-    go true p true = ap Value (f (leb-true _ _ p))
+        → cond (x && y) (Some (get_or m (a - base) 0)) None ≡ cond (x && y) (Some (get_or n (a - base) 0)) None
+    go true p true = ap Some (f (leb-true _ _ p))
     go true p false = refl
     go false p y = refl
 
@@ -47,18 +45,18 @@ module _ (base : ℕ) (m₀ : List ℕ) (addr : ℕ) (new : List ℕ) (k : ℕ) 
     based : (base ≤ addr) × (addr + k ≤ base + length m₀)
     based = g.inside (omega arith)
 
-    byte_there : byte_in base m₀ a ≡ Absent → ⊥
+    byte_there : byte_in base m₀ a ≡ None → ⊥
     byte_there e =
         let v = based in
-        let x : byte_in base m₀ a ≡ Value (get_or m₀ (a - base) 0) = byte_in_lem base m₀ a (omega arith) (omega arith) in
+        let x : byte_in base m₀ a ≡ Some (get_or m₀ (a - base) 0) = byte_in_lem base m₀ a (omega arith) (omega arith) in
         let z : ◌≡◌ {A = ℕ} 0 1 = cc in omega arith
 
-    byte_new : byte_in base m₁ a ≡ Value (get_or new (a - addr) 0)
+    byte_new : byte_in base m₁ a ≡ Some (get_or new (a - addr) 0)
     byte_new =
         let v = based in
         let s = g.size in
         let e : base + (a - base) - addr ≡ a - addr = omega arith in
-        byte_in_lem base m₁ a (omega arith) (omega arith) ∙ ap Value (g.fresh (a - base) (omega arith) (omega arith) ∙ ap (λ (i : ℕ). get_or new i 0) e)
+        byte_in_lem base m₁ a (omega arith) (omega arith) ∙ ap Some (g.fresh (a - base) (omega arith) (omega arith) ∙ ap (λ (i : ℕ). get_or new i 0) e)
 
 -- a call that left its memory so
 module _ (m : Made) (addr : ℕ) (new : List ℕ) (b : m.after.target.base ≡ m.before.target.base) where

@@ -1,8 +1,8 @@
 -- The plans of every session call are sound. Serves the proofs only.
-use Rattle.std.specs.Prelude.{ℕ, zero, suc, ◌+◌, ◌-◌, ◌*◌, ◌/◌, ◌%◌, Bool, true, false, eqb, leb, length, get_or}
+use Rattle.std.specs.Prelude.{ℕ, zero, suc, ◌+◌, ◌-◌, ◌*◌, ◌/◌, ◌%◌, Bool, true, false, eqb, leb, length, get_or, Option, None, Some}
 use Rattle.wire.specs.declared.ArmError.{ArmError}
 use Rattle.wire.specs.declared.ArmError.TheVariants as E
-use Rattle.wire.specs.declared.Outcome.{Outcome}
+use Rattle.wire.specs.Outcomes.{Outcome}
 use Rattle.call.specs.Job.{Job, ends, return, fail}
 use Rattle.call.specs.declared.Change.TheVariants as C
 use Rattle.call_connect.specs.Connect.{connect_job, accepted, set_up, no_target_of, both_acks, poll_acks}
@@ -16,10 +16,6 @@ use Rattle.call_core.specs.declared.Function.{Function}
 use Rattle.call_core.specs.declared.CoreCall.{CoreCall}
 use Rattle.call_core.specs.declared.CoreCall.TheVariants as K
 use Rattle.call_fpb.specs.Breakpoint.{fpb_job, yes, no, num_code, revision, fpb_comp_value, breakable, first_free, take_free, seek, find, look_up, clear}
-use Rattle.call_fpb.specs.declared.CompValue.{CompValue}
-use Rattle.call_fpb.specs.declared.CompValue.TheVariants as P
-use Rattle.call_places.specs.declared.Free.{Free}
-use Rattle.call_places.specs.declared.Free.TheVariants as F
 use Rattle.call_fpb.specs.declared.FpbCall.{FpbCall}
 use Rattle.call_fpb.specs.declared.FpbCall.TheVariants as B
 use Rattle.engine_calls.specs.Calls.{job_of}
@@ -148,12 +144,12 @@ core_sound (K.FinishFunction frame polls) = (tt, finish_sound polls)
 core_sound (K.CallFunction f polls) = sound_bind (start_function f) (λ _. finishing polls) (start_sound f) (λ _. finish_sound polls)
 
 -- Calls 26 to 28
-take_sound : (value : ℕ) (free : Free) → Sound (take_free value free) any
+take_sound : (value : ℕ) (free : Option ℕ) → Sound (take_free value free) any
 unfolding Sound
-take_sound value (F.At i) = step λ _. tt
-take_sound value F.Nowhere = tt
+take_sound value (Some i) = step λ _. tt
+take_sound value None = tt
 
-seek_sound : (value n left : ℕ) (free : Free) → Sound (seek value n left free) any
+seek_sound : (value n left : ℕ) (free : Option ℕ) → Sound (seek value n left free) any
 unfolding Sound seek
 seek_sound value n zero free = take_sound value free
 seek_sound value n (suc left) free =
@@ -165,10 +161,10 @@ find_sound found h value n zero = tt
 find_sound found h value n (suc left) =
     step λ comp. sound_cond (eqb comp value) (found (n - suc left)) (find found value n left) (h (n - suc left)) (find_sound found h value n left)
 
-breakable_sound : (c : CompValue) (next : ℕ → Job) → ((v : ℕ) → Sound (next v) any) → Sound (breakable c next) any
+breakable_sound : (c : Option ℕ) (next : ℕ → Job) → ((v : ℕ) → Sound (next v) any) → Sound (breakable c next) any
 unfolding Sound
-breakable_sound P.None next h = tt
-breakable_sound (P.Some value) next h = h value
+breakable_sound None next h = tt
+breakable_sound (Some value) next h = h value
 
 up_sound : (found : ℕ → Job) → ((i : ℕ) → Sound (found i) any) → (addr : ℕ) → Sound (look_up found addr) any
 unfolding Sound
@@ -178,7 +174,7 @@ fpb_sound : (c : FpbCall) → Sound (fpb_job c) any
 unfolding Sound fpb_job
 fpb_sound (B.HwBreakpointSet addr) =
     step λ ctrl. breakable_sound (fpb_comp_value addr (revision ctrl)) _ (λ value. sound_cond (eqb (num_code ctrl) 0) no _ tt
-    (step λ _. seek_sound value (num_code ctrl) (num_code ctrl) F.Nowhere))
+    (step λ _. seek_sound value (num_code ctrl) (num_code ctrl) None))
 fpb_sound (B.HwBreakpointClear addr) = up_sound clear (λ i. step λ _. tt) addr
 fpb_sound (B.HwBreakpointAt addr) = up_sound (λ _. yes) (λ i. tt) addr
 

@@ -1,10 +1,10 @@
 -- What a delivered access to DRW or RDBUFF does, where SELECT, CSW and TAR stand as a run wants them. Serves the proofs only.
-use Rattle.std.specs.Prelude.{ℕ, suc, ◌+◌, ◌-◌, ◌*◌, ◌%◌, ◌≤◌, ◌<◌, Bool, true, false, cond, ◌≡◌, refl, List, length}
-use Rattle.std.proofs.Common.{true≢false, sym, ap, ◌∙◌, arith}
+use Rattle.std.specs.Prelude.{ℕ, suc, ◌+◌, ◌-◌, ◌*◌, ◌%◌, ◌≤◌, ◌<◌, Bool, true, false, ◌&&◌, cond, leb, ◌≡◌, refl, List, length}
+use Rattle.std.proofs.Common.{true≢false, sym, ap, ◌∙◌, arith, leb-true}
+use Rattle.std.proofs.lemmas.Bool.{false≢true}
 use Rattle.wire.specs.Bytes.{put_word, le_word}
 use Rattle.wire_memap.specs.Ports.{CSW_DEFAULT}
 use Rattle.target.specs.Memory.{in_memory}
-use Rattle.target.specs.Laws.Memory.{in_memory_lem}
 use Rattle.target.specs.Fields.{with_rdbuff}
 use Rattle.target.specs.MemAp.{word_address_of, next_tar, advanced, failed, posted}
 use Rattle.target.specs.Laws.MemAp.{goes_on}
@@ -44,6 +44,14 @@ tar_then {t = t} r a n due j fits count tar some =
     let e : a + 4 * j + 4 ≡ a + 4 * suc j = omega arith in
     next ∙ e
 
+-- what it means that the four bytes from a on are in a memory of n bytes
+within : (base n a : ℕ) → (leb base a && leb (a + 4) (base + n)) ≡ true → (base ≤ a) × (a + 4 ≤ base + n)
+within base n a h = go (leb base a) refl h
+  where
+    go : (b : Bool) → leb base a ≡ b → (b && leb (a + 4) (base + n)) ≡ true → (base ≤ a) × (a + 4 ≤ base + n)
+    go true p q = (leb-true _ _ p, leb-true _ _ q)
+    go false p q = absurd (false≢true q)
+
 -- TAR stands at a word a
 module _ {base a : ℕ} {t : Target} (r : Poised base t) (tar : t.tar ≡ a) (z : a % 4 ≡ 0) where
   word_address : word_address_of t ≡ a
@@ -54,7 +62,7 @@ module _ {base a : ℕ} {t : Target} (r : Poised base t) (tar : t.tar ≡ a) (z 
 
   module _ (mem : List ℕ) where
     here : in_memory t mem (word_address_of t) ≡ true → (base ≤ a) × (a + 4 ≤ base + length mem)
-    here i = rw (r.start, word_address) at (in_memory_lem t.base (length mem) (word_address_of t) i)
+    here i = rw (r.start, word_address) at (within t.base (length mem) (word_address_of t) i)
 
     -- a write puts the word, or sets sticky where it is outside memory
     pub drw_write : (w : ℕ) (P : Delivery → Type 0) → (t.sticky ≡ true → P (refused t mem))

@@ -1,9 +1,8 @@
 -- Bytes that a read has got so far, by a run of words and by a part of one; and the words that take a write further. Serves the proofs only.
-use Rattle.std.specs.Prelude.{ℕ, ◌+◌, ◌-◌, ◌*◌, ◌/◌, ◌%◌, ◌≤◌, ◌<◌, ◌≡◌, List, length, get_or, drop}
+use Rattle.std.specs.Prelude.{ℕ, ◌+◌, ◌-◌, ◌*◌, ◌/◌, ◌%◌, ◌≤◌, ◌<◌, ◌≡◌, List, length, get_or, drop, Some}
 use Rattle.std.proofs.Common.{sym, ap, ◌∙◌, arith, length-drop, get_or-drop}
 use Rattle.std.proofs.Math.Decide.{dec_lt}
 use Rattle.wire.specs.Bytes.{le_bytes, le_word}
-use Rattle.target.specs.declared.Byte.TheVariants.{Value}
 use Rattle.call_bytes.specs.Bytes.{store_words, store_part, patch_word, from_place}
 use Rattle.agreement.specs.Demand3.{Bytes}
 use Rattle.agreement.specs.Laws.WordBytes.{word_bytes}
@@ -23,17 +22,17 @@ Row base mem a n ws = (q : ℕ) → q < n → Held base mem (a + 4 * q) (get_or 
 
 -- the first k bytes of a buffer are those from `addr` on
 abbrev pub Got : ℕ → List ℕ → ℕ → List ℕ → ℕ → Type 0
-Got base mem addr b k = (i : ℕ) → i < k → byte_in base mem (addr + i) ≡ Value (get_or b i 0)
+Got base mem addr b k = (i : ℕ) → i < k → byte_in base mem (addr + i) ≡ Some (get_or b i 0)
 
 module _ (base : ℕ) (mem : List ℕ) (bytes : Bytes mem) where
   held_bytes : (a w : ℕ) → Held base mem a w → (r : ℕ) → r < 4 → get_or (le_bytes w) r 0 ≡ get_or mem (a - base + r) 0
   held_bytes a w h r x = ap (λ (v : ℕ). get_or (le_bytes v) r 0) h.word ∙ word_bytes mem (a - base) r bytes x
 
-  pub held_byte : (a w : ℕ) → Held base mem a w → (r : ℕ) → r < 4 → byte_in base mem (a + r) ≡ Value (get_or (le_bytes w) r 0)
+  pub held_byte : (a w : ℕ) → Held base mem a w → (r : ℕ) → r < 4 → byte_in base mem (a + r) ≡ Some (get_or (le_bytes w) r 0)
   held_byte a w h r x =
       let l = h.low in
       let e : a + r - base ≡ a - base + r = omega arith in
-      byte_in_lem base mem (a + r) (omega arith) (omega (arith, h.high)) ∙ ap Value (ap (λ (j : ℕ). get_or mem j 0) e ∙ sym (held_bytes a w h r x))
+      byte_in_lem base mem (a + r) (omega arith) (omega (arith, h.high)) ∙ ap Some (ap (λ (j : ℕ). get_or mem j 0) e ∙ sym (held_bytes a w h r x))
 
   module _ (addr : ℕ) (b : List ℕ) (k : ℕ) (g : Got base mem addr b k) where
     -- n words more
@@ -44,15 +43,15 @@ module _ (base : ℕ) (mem : List ℕ) (bytes : Bytes mem) where
         r : ℕ
         r = i - k
 
-        go : Dec (i < k) → byte_in base mem (addr + i) ≡ Value (get_or (from_place k (store_words n ws) b) i 0)
-        go (yes y) = g i y ∙ ap Value (sym (from_before k b (store_words n ws (drop k b)) (omega arith) i y))
+        go : Dec (i < k) → byte_in base mem (addr + i) ≡ Some (get_or (from_place k (store_words n ws) b) i 0)
+        go (yes y) = g i y ∙ ap Some (sym (from_before k b (store_words n ws (drop k b)) (omega arith) i y))
         go (no y) =
             let q : r / 4 < n = omega arith in
             let e : addr + i ≡ addr + k + 4 * (r / 4) + r % 4 = omega arith in
             let f : i ≡ k + (4 * (r / 4) + r % 4) = omega arith in
             ap (λ (z : ℕ). byte_in base mem z) e
             ∙ held_byte (addr + k + 4 * (r / 4)) (get_or ws (r / 4) 0) (h (r / 4) q) (r % 4) (omega arith)
-            ∙ ap Value (sym (ap (λ (z : ℕ). get_or (from_place k (store_words n ws) b) z 0) f
+            ∙ ap Some (sym (ap (λ (z : ℕ). get_or (from_place k (store_words n ws) b) z 0) f
             ∙ from_at k b (store_words n ws (drop k b)) (omega arith) (4 * (r / 4) + r % 4)
             ∙ stored_at_lem n ws (drop k b) (omega (arith, length-drop k b)) (r / 4) (r % 4) q (omega arith)))
 
@@ -64,14 +63,14 @@ module _ (base : ℕ) (mem : List ℕ) (bytes : Bytes mem) where
         r : ℕ
         r = i - k
 
-        go : Dec (i < k) → byte_in base mem (addr + i) ≡ Value (get_or (from_place k (store_part count w skip) b) i 0)
-        go (yes y) = g i y ∙ ap Value (sym (from_before k b (store_part count w skip (drop k b)) (omega arith) i y))
+        go : Dec (i < k) → byte_in base mem (addr + i) ≡ Some (get_or (from_place k (store_part count w skip) b) i 0)
+        go (yes y) = g i y ∙ ap Some (sym (from_before k b (store_part count w skip (drop k b)) (omega arith) i y))
         go (no y) =
             let e : addr + i ≡ addr + k - skip + (skip + r) = omega arith in
             let f : i ≡ k + r = omega arith in
             ap (λ (z : ℕ). byte_in base mem z) e
             ∙ held_byte (addr + k - skip) w h (skip + r) (omega arith)
-            ∙ ap Value (sym (ap (λ (z : ℕ). get_or (from_place k (store_part count w skip) b) z 0) f
+            ∙ ap Some (sym (ap (λ (z : ℕ). get_or (from_place k (store_part count w skip) b) z 0) f
             ∙ from_at k b (store_part count w skip (drop k b)) (omega arith) r
             ∙ part_at count w skip (drop k b) (omega (arith, length-drop k b)) r (omega arith)))
 

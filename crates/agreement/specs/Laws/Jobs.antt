@@ -214,8 +214,8 @@ keeps_on (C.StorePart at skip count word) s h p = (agreed_with refl p.0, p.1)
 keeps_on (C.LoadWords at n) s h p = (agreed_with refl p.0, p.1)
 keeps_on (C.Patch at skip count word) s h p = (agreed_with refl p.0, p.1)
 keeps_on (C.Put at word) s h p = (agreed_with refl p.0, p.1)
-keeps_on (C.Registers r0 r1 r2 r3 sp lr pc) s h p = (agreed_with refl p.0, p.1)
-keeps_on (C.Frame r0 r1 r2 r3 sp lr pc xpsr) s h p = (agreed_with refl p.0, p.1)
+keeps_on (C.Registers registers) s h p = (agreed_with refl p.0, p.1)
+keeps_on (C.Frame registers) s h p = (agreed_with refl p.0, p.1)
 
 -- the induction
 job_at : (j : Job) (s : Stage) → Sound j s → (m : Memory) (t : Target) (mem : List ℕ) (b : Bool) → At s b m t mem

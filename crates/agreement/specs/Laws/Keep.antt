@@ -1,5 +1,5 @@
 -- Every call keeps what every call finds, whatever the line does. Serves the proofs only.
-use Rattle.std.specs.Prelude.{ℕ, zero, suc, Bool, true, false, List, ◌≡◌, refl}
+use Rattle.std.specs.Prelude.{ℕ, zero, suc, Bool, true, false, List, ◌≡◌, refl, Ok, Err}
 use Rattle.std.proofs.lemmas.Bool.{false≢true}
 use Rattle.std.proofs.Common.{ap}
 use Rattle.wire.specs.Wire.{Wire, Memory, memory_of, done, ask, tell, play, Ending, ended, spent, succeeds}
@@ -12,8 +12,7 @@ use Rattle.target_line.specs.Talk.{Talk, talk, act_now, acts_then}
 use Rattle.session_phase.specs.Phase.{remembered_for, connects, is_spent, opens_after}
 use Rattle.session_phase.specs.declared.Kind.{Kind}
 use Rattle.session_phase.specs.declared.Kind.TheVariants as K
-use Rattle.session_rules.specs.declared.Check.{Check}
-use Rattle.session_rules.specs.declared.Check.TheVariants.{Pass, Refuse}
+use Rattle.session_rules.specs.Refusals.{Check}
 use Rattle.session_calls.specs.Calls.{kind_of, is_connect}
 use Rattle.session_calls.specs.Session.{plan_of, session_tree, lost_in, stands_after, check_of}
 use Rattle.session_calls.specs.declared.SessionCall.{SessionCall}
@@ -40,7 +39,7 @@ open_whole connect true broken ok h = absurd (false≢true h)
 open_whole connect false broken ok h = refl
 
 -- how the call finds the memory
-starts : (x : Moment) (i : Item) → Kept x → check_of x.standing i.call i.lent ≡ Pass
+starts : (x : Moment) (i : Item) → Kept x → check_of x.standing i.call i.lent ≡ (Ok tt)
     → Agreed (memory_of (remembered_for (kind_of i.call) x.standing.remembered) i.lent.room i.lent.buf) x.target x.mem false
 starts x i k h = go (kind_of i.call) refl
   where
@@ -69,7 +68,7 @@ pub keeps : (x : Moment) (i : Item) (acts : List Act) → Kept x → Kept (made 
 keeps x i acts k = go (check_of x.standing i.call i.lent) refl
   where
     go : (v : Check) → check_of x.standing i.call i.lent ≡ v → Kept (made_if v x i acts).after
-    go (Refuse e) h = k
-    go Pass h =
+    go (Err e) h = k
+    go (Ok tt) h =
         leaves_kept i.call (session_tree x.standing i.call i.lent) i.budget acts x.target x.mem k.formed
         (plan_safe (plan_of i.call i.lent) (plan_sound i.call i.lent) 0 _ _ _ false (starts x i k h))

@@ -1,10 +1,9 @@
 -- What holds of every plan whose jobs are sound: agreement, and where the ignored ABORT stands. One induction over plans, as there is one
 -- over jobs. Serves the proofs only.
-use Rattle.std.specs.Prelude.{ℕ, suc, Bool, true, false, cond, List, ◌≡◌, refl}
+use Rattle.std.specs.Prelude.{ℕ, suc, Bool, true, false, cond, List, ◌≡◌, refl, Ok, Err}
 use Rattle.wire.specs.Wire.{Wire, Memory, done, ask, tell}
 use Rattle.wire.specs.declared.ArmError.{ArmError}
-use Rattle.wire.specs.declared.Outcome.{Outcome}
-use Rattle.wire.specs.declared.Outcome.TheVariants.{Value, Failed}
+use Rattle.wire.specs.Outcomes.{Outcome}
 use Rattle.wire_memap.specs.declared.Op.{Op}
 use Rattle.wire_memap.specs.declared.Op.TheVariants as O
 use Rattle.call.specs.Change.{changed}
@@ -35,8 +34,8 @@ no_raw (O.Other c) s h = go (is_transfer c) h
 
 either_shaped : (good : ℕ → Memory → Wire) (bad : ArmError → Memory → Wire) → ((v : ℕ) (m : Memory) → Shaped false (good v m))
     → ((e : ArmError) (m : Memory) → Shaped false (bad e m)) → (m : Memory) (o : Outcome) → Shaped false (either good bad m o)
-either_shaped good bad g b m (Value v) = g v m
-either_shaped good bad g b m (Failed e) = b e m
+either_shaped good bad g b m (Ok v) = g v m
+either_shaped good bad g b m (Err e) = b e m
 
 job_shaped : (j : Job) (s : Stage) → Sound j s → (m : Memory) → Shaped false (exec j m)
 unfolding exec Shaped Sound

@@ -2,7 +2,7 @@
 use Rattle.std.specs.Prelude.{ℕ, zero, suc, Bool, ◌||◌, List}
 use Rattle.session_phase.specs.Laws.Phase.{or_more, or_none}
 use Rattle.wire.specs.Wire.{Wire, Memory, done, ask, tell, play, Ending, ended, spent}
-use Rattle.wire.specs.declared.Outcome.{Outcome}
+use Rattle.wire.specs.Outcomes.{Outcome}
 use Rattle.target.specs.Line.{line}
 use Rattle.target.specs.declared.Target.{Target}
 use Rattle.target.specs.declared.Act.{Act}

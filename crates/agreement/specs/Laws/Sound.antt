@@ -1,9 +1,8 @@
 -- A check on jobs and plans that needs no target: what a job does to SELECT, here and in the target, goes together. Serves the proofs only.
-use Rattle.std.specs.Prelude.{ℕ, ◌+◌, Bool, true, false, ◌&&◌, cond, eqb}
+use Rattle.std.specs.Prelude.{ℕ, ◌+◌, Bool, true, false, ◌&&◌, cond, eqb, Ok, Err}
 use Rattle.wire.specs.Wire.{Memory}
 use Rattle.wire.specs.declared.ArmError.{ArmError}
-use Rattle.wire.specs.declared.Outcome.{Outcome}
-use Rattle.wire.specs.declared.Outcome.TheVariants.{Value, Failed}
+use Rattle.wire.specs.Outcomes.{Outcome}
 use Rattle.wire_memap.specs.Ports.{SELECT, a32}
 use Rattle.wire_memap.specs.declared.Op.{Op}
 use Rattle.wire_memap.specs.declared.Op.TheVariants as O
@@ -63,8 +62,8 @@ effect_of (C.StorePart at skip count word) = none
 effect_of (C.LoadWords at n) = none
 effect_of (C.Patch at skip count word) = none
 effect_of (C.Put at word) = none
-effect_of (C.Registers r0 r1 r2 r3 sp lr pc) = none
-effect_of (C.Frame r0 r1 r2 r3 sp lr pc xpsr) = none
+effect_of (C.Registers registers) = none
+effect_of (C.Frame registers) = none
 
 -- SELECT is written as 0 only where it is forgotten, and remembered so only after that
 abbrev pub Admits : Effect → Stage → Type 0
@@ -135,8 +134,8 @@ unfolding Sound
 sound_bind j f h g = sound_attempt j (or_fail f) any h go
   where
     go : (o : Outcome) → Sound (or_fail f o) any
-    go (Value v) = g v
-    go (Failed e) = tt
+    go (Ok v) = g v
+    go (Err e) = tt
 
 pub sound_cond : (c : Bool) (i j : Job) → Sound i any → Sound j any → Sound (cond c i j) any
 sound_cond true i j h g = h

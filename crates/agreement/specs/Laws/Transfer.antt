@@ -1,7 +1,7 @@
 -- Rules for actions over the line: one transfer, a transport call that is none, and what chains them. Serves the proofs only.
 -- An action that is answered Ok has lost nothing: what holds after it speaks of the same `lost` as what holds before it.
 use Prim.Native.Nat.{ℕ, zero, suc}
-use Rattle.std.specs.Prelude.{Bool, ◌||◌, cond, List, ◌≡◌, refl, eqb}
+use Rattle.std.specs.Prelude.{Bool, ◌||◌, cond, List, ◌≡◌, refl, eqb, Ok, Err}
 use Rattle.std.proofs.Math.Bool.{true, false}
 use Rattle.std.proofs.Common.{true≢false, ap, ne_eqb}
 use Rattle.session_phase.specs.Laws.Phase.{or_none}
@@ -9,10 +9,9 @@ use Rattle.wire.specs.Wire.{Wire, Memory}
 use Rattle.wire_transfer.specs.Transfer.{clear_sticky_errors, after_answer, tries, transfer, raw, raw_outcome}
 use Rattle.wire.specs.declared.Call.{Call}
 use Rattle.wire.specs.declared.Call.TheVariants as C
-use Rattle.wire.specs.declared.Answer.TheVariants.{SwdError}
+use Rattle.wire.specs.declared.DapError.TheVariants.{SwdError}
 use Rattle.wire.specs.declared.ArmError.{ArmError}
 use Rattle.wire.specs.declared.ArmError.TheVariants as E
-use Rattle.wire.specs.declared.Outcome.TheVariants.{Value, Failed}
 use Rattle.wire.specs.declared.Remembered.{Remembered}
 use Rattle.wire_memap.specs.Action.{Then, Action, ◌>>=◌, return, transferring, remembering, remember}
 use Rattle.wire_memap.specs.Words.{placed, place}
@@ -41,8 +40,8 @@ pub record Stops (S F : Stand) : Type 0 where
 
 -- what follows an action is safe, after its value and wherever it stopped
 pub record Follows (Q : Post) (S F : Stand) (b : Bool) (G : ℕ → Spot) (k : Then) : Type 0 where
-  pub value : (v : ℕ) {m : Memory} {t : Target} {mem : List ℕ} → G v m t mem → Safe Q S (k m (Value v)) t mem b
-  pub fails : (e : ArmError) {m : Memory} {t : Target} {mem : List ℕ} {lost : Bool} → F m t mem lost → Safe Q S (k m (Failed e)) t mem lost
+  pub value : (v : ℕ) {m : Memory} {t : Target} {mem : List ℕ} → G v m t mem → Safe Q S (k m (Ok v)) t mem b
+  pub fails : (e : ArmError) {m : Memory} {t : Target} {mem : List ℕ} {lost : Bool} → F m t mem lost → Safe Q S (k m (Err e)) t mem lost
 
 -- from P the action a comes to G with its value, or stops at F
 pub record Triple (Q : Post) (S F : Stand) (b : Bool) (P : Spot) (a : Action) (G : ℕ → Spot) : Type 0 where
@@ -67,11 +66,11 @@ or_true true = refl
 or_true false = refl
 
 no_wait : (n : ℕ) → eqb (ack_of n) 2 ≡ false
-no_wait n = ne_eqb (ack_of n) 2 (λ h. loss_no_wait (L.Ack n) (ap SwdError h))
+no_wait n = ne_eqb (ack_of n) 2 (λ h. loss_no_wait (L.Ack n) (ap (λ (k : ℕ). Err (SwdError k)) h))
 
 -- an error that the line makes is a loss
 lost_is : (x : Loss) → loss (error_of x) ≡ true
-lost_is (L.Ack n) = rw (no_wait n, ne_eqb (ack_of n) 4 (λ h. loss_no_fault (L.Ack n) (ap SwdError h)))
+lost_is (L.Ack n) = rw (no_wait n, ne_eqb (ack_of n) 4 (λ h. loss_no_fault (L.Ack n) (ap (λ (k : ℕ). Err (SwdError k)) h)))
 lost_is L.NotSupported = refl
 lost_is L.Other = refl
 
@@ -80,7 +79,7 @@ module _ {Q : Post} {S F : Stand} {b : Bool} {G : ℕ → Spot} {k : Then} (stop
   unfolding Safe
   abort_safe e t mem lost p = (stops.spends p, go)
     where
-      go : (act : Act) → Safe Q S (k m (Failed e)) (line t mem (C.Transfer 0 0x1E) act).target (line t mem (C.Transfer 0 0x1E) act).mem lost
+      go : (act : Act) → Safe Q S (k m (Err e)) (line t mem (C.Transfer 0 0x1E) act).target (line t mem (C.Transfer 0 0x1E) act).mem lost
       go Deliver = follows.fails e (stops.aborts p)
       go Wait = follows.fails e p
       go (Lose true x) = follows.fails e (stops.aborts p)

@@ -1,13 +1,12 @@
 -- A session's step by value, and one whose value is taken at once in the words. Serves the proofs only.
-use Rattle.std.specs.Prelude.{ℕ, ◌-◌, ◌<◌, ◌%◌, Bool, true, false, ◌&&◌, ◌||◌, List, [], ◌∷◌, ◌≡◌, refl, eqb, length, drop, get_or, set}
+use Rattle.std.specs.Prelude.{ℕ, ◌-◌, ◌<◌, ◌%◌, Bool, true, false, ◌&&◌, ◌||◌, List, [], ◌∷◌, ◌≡◌, refl, eqb, length, drop, get_or, set, Ok, None, Some}
 use Rattle.std.proofs.Common.{true≢false, sym, ap, subst, ◌∙◌, arith, ne_eqb, eqb-true}
 use Rattle.wire.specs.Bytes.{handed, padded}
 use Rattle.wire.specs.Wire.{follow}
 use Rattle.wire.specs.Laws.Rows.{spelled}
-use Rattle.wire.specs.declared.Answer.{Answer}
-use Rattle.wire.specs.declared.Answer.TheVariants.{Good}
+use Rattle.wire.specs.Outcomes.{Answer}
 use Rattle.wire.specs.declared.Call.{Call}
-use Rattle.wire.specs.declared.Outcome.{Outcome}
+use Rattle.wire.specs.Outcomes.{Outcome}
 use Rattle.wire_transfer.specs.Laws.Flight.{transfer_of}
 use Rattle.wire_numbers.specs.Log.{answer_at}
 use Rattle.wire_numbers.specs.Numbers.{numbers_of}
@@ -30,7 +29,6 @@ use Rattle.session.specs.Answer.{standing}
 use Rattle.session.specs.Laws.Ends.{settled_by, settles}
 use Rattle.session.specs.declared.Session.{Session}
 use Rattle.session.specs.declared.Reply.{Reply}
-use Rattle.session.specs.declared.SessionNext.TheVariants as S
 use Rattle.session.specs.declared.SessionAnswer.{SessionAnswer}
 use Rattle.session_steps.specs.Step.{SteppedIn, Started, Stepped}
 use Rattle.session_steps.specs.Laws.Starts.{Over, steps_room, answers_as}
@@ -38,8 +36,6 @@ use Rattle.session_calls.specs.declared.SessionCall.{SessionCall}
 use Rattle.session_calls.specs.declared.Order.{Order}
 use Rattle.engine_calls.specs.declared.EngineCall.{EngineCall}
 use Rattle.abi_calls.specs.Given.{engine_call_of, session_call_of}
-use Rattle.abi_calls.specs.declared.Given.TheVariants as G
-use Rattle.abi_calls.specs.declared.Ordered.TheVariants as O
 use Rattle.abi_words.specs.Words.{words_from, phase_at, state_of, session_of, KeepsState, KeepsSession}
 use Rattle.abi_words.specs.Numbers.{next_numbers}
 use Rattle.abi_steps.specs.Engine.{Told, Refuses, EngineStarted}
@@ -100,14 +96,14 @@ module _ (kind : Kind) (lost : Bool) (limit more : ℕ) (c : Call) (s : State) (
   abbrev answer : SessionAnswer
   answer = record {
     session = record { phase = Running kind lost; budget = limit; left = more; state = s };
-    reply = record { next = S.Make (numbers_of c); bytes = padded (handed c) };
+    reply = record { next = N.Make (numbers_of c); bytes = padded (handed c) };
   }
 
   due_settled : settled_by kind lost limit more due ≡ answer
   due_settled = rw some
 
 -- a value that was taken at once is a step of the session
-module _ {v : ℕ} {ws₀ room₀ ws₁ room₁ : List ℕ} (h : length ws₀ ≡ 64) (q : May ws₀) (g : Takes (Good v) true ws₀ room₀ ws₁ room₁) (list b : List ℕ) where
+module _ {v : ℕ} {ws₀ room₀ ws₁ room₁ : List ℕ} (h : length ws₀ ≡ 64) (q : May ws₀) (g : Takes (Ok v) true ws₀ room₀ ws₁ room₁) (list b : List ℕ) where
   abbrev call : Call
   call = (transfer_of (words_from 7 3 ws₁)).call
 
@@ -120,17 +116,17 @@ module _ {v : ℕ} {ws₀ room₀ ws₁ room₁ : List ℕ} (h : length ws₀ �
   some : eqb (get_or ws₀ 2 0 - 1) 0 ≡ false
   some = ne_eqb (get_or ws₀ 2 0 - 1) 0 (λ e. omega (arith, e, q.left))
 
-  steps : Engine.Stepped (state_of ws₀) (Good v) (due q.kind q.lost limit more call (state_of ws₁) some) room₀ list b room₁ list b
+  steps : Engine.Stepped (state_of ws₀) (Ok v) (due q.kind q.lost limit more call (state_of ws₁) some) room₀ list b room₁ list b
   steps = stepped (state_of ws₀) _ (refl, refl) refl (g.moved refl h list b)
       (answers_call (words_from 7 3 ws₁) (words_from 12 10 ws₁) (words_from 9 22 ws₁) call (g.runs refl h) refl refl refl)
 
-  over : Over (follow (state_tree (state_of ws₀) room₀ b) (Good v)) (due q.kind q.lost limit more call (state_of ws₁) some) room₁ list list b
+  over : Over (follow (state_tree (state_of ws₀) room₀ b) (Ok v)) (due q.kind q.lost limit more call (state_of ws₁) some) room₁ list list b
   over = steps_room (state_of ws₀) ((λ _ _. refl), ap (λ (n : ℕ). eqb (n % 2) 1) q.over) steps
 
-  goes : Stepped (session_of ws₀) (Good v) (lending room₀ list b) (answer q.kind q.lost limit more call (state_of ws₁) some).session
+  goes : Stepped (session_of ws₀) (Ok v) (lending room₀ list b) (answer q.kind q.lost limit more call (state_of ws₁) some).session
       (answer q.kind q.lost limit more call (state_of ws₁) some).reply (lending room₁ list b)
   goes =
-      subst (λ (p : Phase). SteppedIn p (session_of ws₀) (Good v) (lending room₀ list b) (answer q.kind q.lost limit more call (state_of ws₁) some).session
+      subst (λ (p : Phase). SteppedIn p (session_of ws₀) (Ok v) (lending room₀ list b) (answer q.kind q.lost limit more call (state_of ws₁) some).session
       (answer q.kind q.lost limit more call (state_of ws₁) some).reply (lending room₁ list b)) (sym q.phase)
       (answers_as refl (no_loss q.lost (Engine.awaited (state_tree (state_of ws₀) room₀ b))) refl refl
       (settles q.kind q.lost limit more _ _ room₁ list b over.steps (sym (due_settled q.kind q.lost limit more call (state_of ws₁) some))))
@@ -147,12 +143,12 @@ module _ {v : ℕ} {ws₀ room₀ ws₁ room₁ : List ℕ} (h : length ws₀ �
       k = left_set more ws₁ (g.kept refl h).sized
 
   pub goes_at_once : {left : ℕ} {next bytes : List ℕ} → left ≡ get_or ws₀ 2 0 - 1 → Told (transfer_of (words_from 7 3 (set ws₁ 2 left))).call next bytes
-      → GoesOn (Good v) ws₀ (lending room₀ list b) (set ws₁ 2 left) next bytes (lending room₁ list b)
+      → GoesOn (Ok v) ws₀ (lending room₀ list b) (set ws₁ 2 left) next bytes (lending room₁ list b)
   goes_at_once {next = next} {bytes} e t =
-      subst (λ (n : ℕ). GoesOn (Good v) ws₀ (lending room₀ list b) (set ws₁ 2 n) next bytes (lending room₁ list b)) (sym e) (record {
+      subst (λ (n : ℕ). GoesOn (Ok v) ws₀ (lending room₀ list b) (set ws₁ 2 n) next bytes (lending room₁ list b)) (sym e) (record {
         says = record {
           reply = (answer q.kind q.lost limit more call (state_of ws₁) some).reply;
-          answers = subst (λ (s : Session). Stepped (session_of ws₀) (Good v) (lending room₀ list b) s
+          answers = subst (λ (s : Session). Stepped (session_of ws₀) (Ok v) (lending room₀ list b) s
               (answer q.kind q.lost limit more call (state_of ws₁) some).reply (lending room₁ list b)) (sym stays) goes;
           numbers = told.numbers;
           hands = told.hands;
@@ -170,22 +166,22 @@ pub record TakesOne (a : Answer) (r : Bool) (ws₀ room₀ ws room : List ℕ) :
       → GoesOn a ws₀ (lending room₀ list b) ws next bytes (lending room list b)
   pub stays : r ≡ false → (ws ≡ ws₀) × (room ≡ room₀)
 
-pub takes_one : {v : ℕ} {r : Bool} {ws₀ room₀ ws₁ room₁ : List ℕ} {left : ℕ} → May ws₀ → left ≡ get_or ws₀ 2 0 - 1 → Takes (Good v) r ws₀ room₀ ws₁ room₁ → r ≡ true
-    → TakesOne (Good v) true ws₀ room₀ (set ws₁ 2 left) room₁
+pub takes_one : {v : ℕ} {r : Bool} {ws₀ room₀ ws₁ room₁ : List ℕ} {left : ℕ} → May ws₀ → left ≡ get_or ws₀ 2 0 - 1 → Takes (Ok v) r ws₀ room₀ ws₁ room₁ → r ≡ true
+    → TakesOne (Ok v) true ws₀ room₀ (set ws₁ 2 left) room₁
 takes_one {v} {r} {ws₀} {room₀} {ws₁} {room₁} q l g e = record {
-  taken = λ _ h list b t. goes_at_once h q (subst (λ (x : Bool). Takes (Good v) x ws₀ room₀ ws₁ room₁) e g) list b l t;
+  taken = λ _ h list b t. goes_at_once h q (subst (λ (x : Bool). Takes (Ok v) x ws₀ room₀ ws₁ room₁) e g) list b l t;
   stays = λ f. absurd (true≢false f);
 }
 
-pub takes_none : {v : ℕ} {r : Bool} {ws₀ room₀ ws₁ room₁ : List ℕ} → Takes (Good v) r ws₀ room₀ ws₁ room₁ → r ≡ false
-    → TakesOne (Good v) false ws₀ room₀ ws₁ room₁
+pub takes_none : {v : ℕ} {r : Bool} {ws₀ room₀ ws₁ room₁ : List ℕ} → Takes (Ok v) r ws₀ room₀ ws₁ room₁ → r ≡ false
+    → TakesOne (Ok v) false ws₀ room₀ ws₁ room₁
 takes_none g e = record { taken = λ f. absurd (true≢false (sym f)); stays = λ _. g.stays e }
 
 pub takes_nothing : (a : Answer) (ws room : List ℕ) → TakesOne a false ws room ws room
 takes_nothing a ws room = record { taken = λ f. absurd (true≢false (sym f)); stays = λ _. (refl, refl) }
 
 -- 01's code 0 is a value
-pub takes_value : (code v : ℕ) {r : Bool} {ws₀ room₀ ws room : List ℕ} → code ≡ 0 → TakesOne (Good v) r ws₀ room₀ ws room
+pub takes_value : (code v : ℕ) {r : Bool} {ws₀ room₀ ws room : List ℕ} → code ≡ 0 → TakesOne (Ok v) r ws₀ room₀ ws room
     → TakesOne (answer_at code v) r ws₀ room₀ ws room
 takes_value code v {r} {ws₀} {room₀} {ws} {room} e g = subst (λ (n : ℕ). TakesOne (answer_at n v) r ws₀ room₀ ws room) (sym e) g
 
@@ -209,50 +205,50 @@ pub may : (ws : List ℕ) {p : Phase} {kind : Kind} {lost : Bool} → p ≡ phas
 may ws {kind = kind} {lost} e h l z = record { kind = kind; lost = lost; phase = sym e ∙ h; left = l; over = eqb-true _ _ z }
 
 -- a start by number, of a call and of none
-pub begins_as : {call budget : ℕ} {args ws₀ : List ℕ} {l₀ l : Lent} {ws next bytes : List ℕ} {c : SessionCall} → session_call_of call args ≡ O.Asked c
+pub begins_as : {call budget : ℕ} {args ws₀ : List ℕ} {l₀ l : Lent} {ws next bytes : List ℕ} {c : SessionCall} → session_call_of call args ≡ Some c
     → Begun (record { call = c; budget = budget }) ws₀ l₀ ws next bytes l → Begins call budget args ws₀ l₀ ws next bytes l
 begins_as {budget = budget} {ws₀ = ws₀} {l₀} {l} {ws} {next} {bytes} {c} e g = record {
   asked = λ d f. subst (λ (x : SessionCall). Begun (record { call = x; budget = budget }) ws₀ l₀ ws next bytes l) (asked_same (sym e ∙ f)) g;
   bad = λ f. absurd (asked_bad (sym e ∙ f));
 }
   where
-    asked_same : {x y : SessionCall} → O.Asked x ≡ O.Asked y → x ≡ y
+    asked_same : {x y : SessionCall} → Some x ≡ Some y → x ≡ y
     asked_same h = cc
 
-    asked_bad : {x : SessionCall} → O.Asked x ≡ O.Bad → ⊥
+    asked_bad : {x : SessionCall} → Some x ≡ None → ⊥
     asked_bad h = let z : ◌≡◌ {A = ℕ} 0 1 = cc in omega arith
 
-pub begins_not : {call budget : ℕ} {args ws : List ℕ} {l : Lent} {next bytes : List ℕ} → session_call_of call args ≡ O.Bad → Refuses 255 next bytes
+pub begins_not : {call budget : ℕ} {args ws : List ℕ} {l : Lent} {next bytes : List ℕ} → session_call_of call args ≡ None → Refuses 255 next bytes
     → Begins call budget args ws l ws next bytes l
 begins_not e g = record {
   asked = λ c f. absurd (bad_asked (sym e ∙ f));
   bad = λ _. record { tells = g; words = refl; lent = refl };
 }
   where
-    bad_asked : {x : SessionCall} → O.Bad ≡ O.Asked x → ⊥
+    bad_asked : {x : SessionCall} → None ≡ Some x → ⊥
     bad_asked h = let z : ◌≡◌ {A = ℕ} 0 1 = cc in omega arith
 
-pub engine_begins_as : {call : ℕ} {args ws₀ : List ℕ} {l₀ l : Lent} {ws next bytes : List ℕ} {x : EngineCall} → engine_call_of call args ≡ G.Asked x
+pub engine_begins_as : {call : ℕ} {args ws₀ : List ℕ} {l₀ l : Lent} {ws next bytes : List ℕ} {x : EngineCall} → engine_call_of call args ≡ Some x
     → EngineStarted x ws₀ l₀ ws next bytes l → EngineBegins call args ws₀ l₀ ws next bytes l
 engine_begins_as {ws₀ = ws₀} {l₀} {l} {ws} {next} {bytes} {x} e g = record {
   asked = λ y f. subst (λ (z : EngineCall). EngineStarted z ws₀ l₀ ws next bytes l) (asked_same (sym e ∙ f)) g;
   bad = λ f. absurd (asked_bad (sym e ∙ f));
 }
   where
-    asked_same : {x y : EngineCall} → G.Asked x ≡ G.Asked y → x ≡ y
+    asked_same : {x y : EngineCall} → Some x ≡ Some y → x ≡ y
     asked_same h = cc
 
-    asked_bad : {x : EngineCall} → G.Asked x ≡ G.Bad → ⊥
+    asked_bad : {x : EngineCall} → Some x ≡ None → ⊥
     asked_bad h = let z : ◌≡◌ {A = ℕ} 0 1 = cc in omega arith
 
-pub engine_begins_not : {call : ℕ} {args ws : List ℕ} {l : Lent} {next bytes : List ℕ} → engine_call_of call args ≡ G.Bad → Refuses 255 next bytes
+pub engine_begins_not : {call : ℕ} {args ws : List ℕ} {l : Lent} {next bytes : List ℕ} → engine_call_of call args ≡ None → Refuses 255 next bytes
     → EngineBegins call args ws l ws next bytes l
 engine_begins_not e g = record {
   asked = λ x f. absurd (bad_asked (sym e ∙ f));
   bad = λ _. record { tells = g; words = refl; lent = refl };
 }
   where
-    bad_asked : {x : EngineCall} → G.Bad ≡ G.Asked x → ⊥
+    bad_asked : {x : EngineCall} → None ≡ Some x → ⊥
     bad_asked h = let z : ◌≡◌ {A = ℕ} 0 1 = cc in omega arith
 
 -- a new engine has no call under way

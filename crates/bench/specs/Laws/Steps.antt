@@ -1,13 +1,11 @@
 -- A start and a step in words that are lent, with what they answer: whether a transport call is due. Serves the proofs only.
-use Rattle.std.specs.Prelude.{ℕ, ◌<◌, Bool, true, false, List, ◌≡◌, refl}
+use Rattle.std.specs.Prelude.{ℕ, Bool, true, List, ◌≡◌}
 use Rattle.std.proofs.Common.{sym, subst, ◌∙◌}
-use Rattle.wire.specs.declared.Answer.{Answer}
-use Rattle.wire.specs.declared.Answer.TheVariants.{Good}
+use Rattle.wire.specs.Outcomes.{Answer}
 use Rattle.wire.specs.declared.Remembered.{Remembered}
 use Rattle.wire_memap.specs.Laws.Doing.{OpSized, Remembers}
 use Rattle.wire_memap.specs.Laws.Flight.{Fits}
 use Rattle.wire_numbers.specs.Log.{answer_of}
-use Rattle.wire_numbers.specs.Laws.Log.{good_answer_lem}
 use Rattle.call.specs.Change.{fresh}
 use Rattle.engine_calls.specs.Calls.{lent, call_tree}
 use Rattle.engine_calls.specs.declared.EngineCall.{EngineCall}
@@ -35,20 +33,6 @@ begun_in x {y} t₀ m₀ c₀ room₀ words₀ b₀ {m₁} {t} {m} {c} {room} {w
 pub record SteppedBy (x : ℕ) (r : Bool) (t₀ m₀ c₀ room₀ words₀ b₀ t m c room words b : List ℕ) : Type 0 where
   pub step : SteppedIn (answer_of x) t₀ m₀ c₀ room₀ words₀ b₀ t m c room words b
   pub due : r ≡ running c
-
--- a value that is tried once, and once more
-pub tried_once : (x : ℕ) (t₀ m₀ c room₀ : List ℕ) {p r : Bool} {t m room : List ℕ} → x < 0x100000000 → p ≡ r → TriesIn (Good x) p t₀ m₀ c room₀ t m room
-    → TriesIn (answer_of x) r t₀ m₀ c room₀ t m room
-tried_once x t₀ m₀ c room₀ {r = r} {t} {m} {room} l e g =
-    subst (λ (a : Answer). TriesIn a r t₀ m₀ c room₀ t m room) (good_answer_lem x l) (subst (λ (y : Bool). TriesIn (Good x) y t₀ m₀ c room₀ t m room) e g)
-
-pub tried_again : (x : ℕ) (t₀ m₀ c room₀ : List ℕ) {p r : Bool} {t₁ m₁ room₁ t m room : List ℕ} → x < 0x100000000 → TriesIn (Good x) p t₀ m₀ c room₀ t₁ m₁ room₁ → p ≡ false
-    → TriesIn (Good x) r t₁ m₁ c room₁ t m room → TriesIn (answer_of x) r t₀ m₀ c room₀ t m room
-tried_again x t₀ m₀ c room₀ l g f h = tried_once x t₀ m₀ c room₀ l refl (let q = g.stays f in record {
-  moved = λ e words b. stepped_from (Good x) t₀ m₀ c room₀ words b q (h.moved e words b);
-  goes = h.goes;
-  stays = λ e. let p = h.stays e in (p.0 ∙ q.0, p.1 ∙ q.1, p.2 ∙ q.2);
-})
 
 pub stepped_at_once : (x : ℕ) (t₀ m₀ c room₀ words b : List ℕ) {r : Bool} {t m room : List ℕ} → TriesIn (answer_of x) r t₀ m₀ c room₀ t m room → r ≡ true
     → SteppedBy x true t₀ m₀ c room₀ words b t m c room words b

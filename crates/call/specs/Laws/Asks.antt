@@ -1,8 +1,7 @@
 -- What a call asks for next. Serves the proofs only: a call in flight stands for what follows its operation.
-use Rattle.std.specs.Prelude.{◌≡◌, refl}
+use Rattle.std.specs.Prelude.{◌≡◌, refl, Ok, Err}
 use Rattle.wire.specs.Wire.{Memory}
-use Rattle.wire.specs.declared.Outcome.{Outcome}
-use Rattle.wire.specs.declared.Outcome.TheVariants.{Value, Failed}
+use Rattle.wire.specs.Outcomes.{Outcome}
 use Rattle.wire_memap.specs.Action.{Then}
 use Rattle.wire_memap.specs.Ops.{perform}
 use Rattle.wire_memap.specs.declared.Op.{Op}
@@ -15,7 +14,7 @@ use Rattle.call.specs.declared.Next.TheVariants as N
 
 -- the operation w, and then what k makes of its outcome
 abbrev pub op_then : Op → (Outcome → Job) → Job
-op_then w k = op w (λ v. k (Value v)) (λ e. k (Failed e))
+op_then w k = op w (λ v. k (Ok v)) (λ e. k (Err e))
 
 abbrev pub next_job : Next → (Outcome → Job) → Job
 next_job (N.Do w) k = op_then w k
@@ -33,19 +32,19 @@ keep_some (C.StorePart at skip count word) j = keep (C.StorePart at skip count w
 keep_some (C.LoadWords at n) j = keep (C.LoadWords at n) j
 keep_some (C.Patch at skip count word) j = keep (C.Patch at skip count word) j
 keep_some (C.Put at word) j = keep (C.Put at word) j
-keep_some (C.Registers r0 r1 r2 r3 sp lr pc) j = keep (C.Registers r0 r1 r2 r3 sp lr pc) j
-keep_some (C.Frame r0 r1 r2 r3 sp lr pc xpsr) j = keep (C.Frame r0 r1 r2 r3 sp lr pc xpsr) j
+keep_some (C.Registers registers) j = keep (C.Registers registers) j
+keep_some (C.Frame registers) j = keep (C.Frame registers) j
 
 -- the job that a call asks for: a change, and then an operation with what follows it, or the end
 abbrev pub asks : Change → Next → (Outcome → Job) → Job
 asks c n k = keep_some c (next_job n k)
 
 abbrev pub then_of : (Outcome → Job) → Then
-then_of k = either (λ v. exec (k (Value v))) (λ e. exec (k (Failed e)))
+then_of k = either (λ v. exec (k (Ok v))) (λ e. exec (k (Err e)))
 
 pub then_is : (k : Outcome → Job) (m : Memory) (o : Outcome) → then_of k m o ≡ exec (k o) m
-then_is k m (Value v) = refl
-then_is k m (Failed e) = refl
+then_is k m (Ok v) = refl
+then_is k m (Err e) = refl
 
 pub exec_op : (w : Op) (k : Outcome → Job) (m : Memory) → exec (op_then w k) m ≡ perform w (then_of k) m
 unfolding exec
@@ -63,5 +62,5 @@ exec_keep (C.StorePart at skip count word) j m = refl
 exec_keep (C.LoadWords at n) j m = refl
 exec_keep (C.Patch at skip count word) j m = refl
 exec_keep (C.Put at word) j m = refl
-exec_keep (C.Registers r0 r1 r2 r3 sp lr pc) j m = refl
-exec_keep (C.Frame r0 r1 r2 r3 sp lr pc xpsr) j m = refl
+exec_keep (C.Registers registers) j m = refl
+exec_keep (C.Frame registers) j m = refl

@@ -29,8 +29,8 @@ parts (C.StorePart at skip count word) r ws b = refl
 parts (C.LoadWords at n) r ws b = refl
 parts (C.Patch at skip count word) r ws b = refl
 parts (C.Put at word) r ws b = refl
-parts (C.Registers r0 r1 r2 r3 sp lr pc) r ws b = refl
-parts (C.Frame r0 r1 r2 r3 sp lr pc xpsr) r ws b = refl
+parts (C.Registers registers) r ws b = refl
+parts (C.Frame registers) r ws b = refl
 
 pub same_memory : (c : Change) (r : Remembered) (ws b : List ℕ) (r₂ : Remembered) (ws₂ b₂ : List ℕ)
     → r₂ ≡ remembered_after c r → ws₂ ≡ words_after c ws b → b₂ ≡ buf_after c ws b → changed c (memory_of r ws b) ≡ memory_of r₂ ws₂ b₂
@@ -48,8 +48,8 @@ is_nothing (C.StorePart at skip count word) = false
 is_nothing (C.LoadWords at n) = false
 is_nothing (C.Patch at skip count word) = false
 is_nothing (C.Put at word) = false
-is_nothing (C.Registers r0 r1 r2 r3 sp lr pc) = false
-is_nothing (C.Frame r0 r1 r2 r3 sp lr pc xpsr) = false
+is_nothing (C.Registers registers) = false
+is_nothing (C.Frame registers) = false
 
 pub nothing_is : (c : Change) → is_nothing c ≡ true → c ≡ C.Nothing
 nothing_is C.Nothing h = refl
@@ -62,5 +62,5 @@ nothing_is (C.StorePart at skip count word) h = absurd (true≢false (sym h))
 nothing_is (C.LoadWords at n) h = absurd (true≢false (sym h))
 nothing_is (C.Patch at skip count word) h = absurd (true≢false (sym h))
 nothing_is (C.Put at word) h = absurd (true≢false (sym h))
-nothing_is (C.Registers r0 r1 r2 r3 sp lr pc) h = absurd (true≢false (sym h))
-nothing_is (C.Frame r0 r1 r2 r3 sp lr pc xpsr) h = absurd (true≢false (sym h))
+nothing_is (C.Registers registers) h = absurd (true≢false (sym h))
+nothing_is (C.Frame registers) h = absurd (true≢false (sym h))

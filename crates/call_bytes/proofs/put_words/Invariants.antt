@@ -1,19 +1,11 @@
--- Both loops take turns of `store_words`, the first with nothing to test, and the turns left out store past the end.
--- The second loop's invariant names no list from before it, so it speaks of every b that the first loop's turns can have begun with.
-use Prim.Native.Nat.{ℕ, ◌≤◌, ◌-◌}
+-- Both loops take turns of `store_words`, and the turns left out store past the end.
+-- A turn at word k of the row stores its bytes from place 4 * k on.
 use mathlib.Core.Path.{◌≡◌}
-use mathlib.Core.List.{List}
 use Rattle.call_bytes.specs.Bytes.{store_words}
 use Rattle.call_bytes.proofs.put_words.Given as goal
 
 abbrev pub invariant-loop-j : goal.invariant-loop-j
-invariant-loop-j l = (l.j ≤ l.end) × (l.dst ≡ store_words l.j l.row l.initial.dst)
-
-abbrev pub decreases-loop-j : goal.decreases-loop-j
-decreases-loop-j l = l.whole - l.j
+invariant-loop-j l = l.dst ≡ store_words l.j l.row l.fn.dst
 
 abbrev pub invariant-loop-j-2 : goal.invariant-loop-j-2
-invariant-loop-j-2 l = (l.j ≤ l.end) × ((b : List ℕ) → l.initial.dst ≡ store_words l.initial.j l.row b → l.dst ≡ store_words l.j l.row b)
-
-abbrev pub decreases-loop-j-2 : goal.decreases-loop-j-2
-decreases-loop-j-2 l = l.end - l.j
+invariant-loop-j-2 l = l.dst ≡ store_words l.j l.row l.fn.dst

@@ -1,11 +1,30 @@
 -- Laws of Bytes. Serves the proofs only: the loops that store turn by turn, and the end of a buffer lent and put back.
 use Rattle.std.specs.Prelude.{ℕ, zero, suc, ◌+◌, ◌*◌, ◌-◌, ◌<◌, ◌≤◌, min, ◌≡◌, refl, List, [], ◌∷◌, ◌++◌, length, get_or, take, drop}
-use Rattle.std.proofs.Common.{sym, ap, ◌∙◌, append-nil, length-drop, drop_of_length-le, take_all, add-suc, add-one, arith}
-use Rattle.std.proofs.lemmas.List.Edits.{sets}
+use Rattle.std.specs.Int.{w32, to_le_bytes}
+use Rattle.std.proofs.Common.{sym, ap, ◌∙◌, append-nil, length-drop, drop_of_length-le, take_all, drop-drop, get_or-take, get_or-drop, add-suc, add-one, arith, rules}
+use Rattle.std.proofs.lemmas.List.{append_assoc}
+use Rattle.std.proofs.lemmas.List.Edits.{sets, sets-eq}
 use Rattle.std.proofs.Math.Seq.{set_out, length-sets}
 use Rattle.std.proofs.Math.Nat.{zero-min, min-zero, suc-min-suc}
-use Rattle.wire.specs.Bytes.{le_bytes, le_word}
+use Rattle.wire.specs.Bytes.{le_bytes, le_word, put_word}
 use Rattle.call_bytes.specs.Bytes.{store_words, store_part, load_words, patch_bytes, from_place}
+
+-- the library's bytes of a word are the definition's
+pub word_bytes : (w : ℕ) → to_le_bytes w32 w ≡ le_bytes w
+word_bytes w = search rules
+
+-- a word's bytes put in the place of four that were lent, from place i on
+pub whole_put : (b l : List ℕ) (i w : ℕ) → i + 4 ≤ length b → l ≡ to_le_bytes w32 w
+    → take i b ++ (l ++ drop (i + 4 - i) (drop i b)) ≡ put_word b i w
+whole_put b l i w le h =
+    let e : i + 4 - i ≡ 4 = omega arith in rw (h ∙ word_bytes w, e, drop-drop 4 i b, sets-eq (le_bytes w) b i le) (sym (append_assoc (take i b) (le_bytes w) (drop (i + 4) b)))
+
+-- the word of four bytes that were lent, from place i on
+pub whole_got : (b : List ℕ) (i : ℕ) → le_word (take (i + 4 - i) (drop i b)) 0 ≡ le_word b i
+whole_got b i =
+    let e : i + 4 - i ≡ 4 = omega arith in
+    let at : (k : ℕ) → k < 4 → get_or (take 4 (drop i b)) k 0 ≡ get_or b (i + k) 0 = λ k h. get_or-take 4 (drop i b) k 0 h ∙ get_or-drop i b k 0 in
+    let none : i + 0 ≡ i = omega arith in rw (e, at 0 (omega arith), none, at 1 (omega arith), at 2 (omega arith), at 3 (omega arith))
 
 -- what is stored past the end is dropped
 sets_out : (vs l : List ℕ) (i : ℕ) → length l ≤ i → sets l i vs ≡ l

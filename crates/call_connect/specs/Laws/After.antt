@@ -1,13 +1,12 @@
 -- What follows each operation of a connect. Serves the proofs only: the table of phases, and that it is the calls as written.
-use Rattle.std.specs.Prelude.{ℕ, zero, suc, ◌-◌, ◌%◌, true, cond, List, [], ◌∷◌, ◌≡◌, refl, get_or}
+use Rattle.std.specs.Prelude.{ℕ, zero, suc, ◌-◌, ◌%◌, true, cond, List, [], ◌∷◌, ◌≡◌, refl, get_or, Ok, Err}
 use Rattle.std.proofs.Common.{ap}
 use Rattle.wire.specs.Laws.Numbers.{less}
 use Rattle.wire.specs.declared.Call.{Call}
 use Rattle.wire.specs.declared.Call.TheVariants as T
 use Rattle.wire.specs.declared.Pattern.TheVariants as P
 use Rattle.wire.specs.declared.ArmError.TheVariants as E
-use Rattle.wire.specs.declared.Outcome.{Outcome}
-use Rattle.wire.specs.declared.Outcome.TheVariants.{Value, Failed}
+use Rattle.wire.specs.Outcomes.{Outcome}
 use Rattle.wire_memap.specs.declared.Op.TheVariants as O
 use Rattle.wire_memap.specs.Ports.{DPIDR, CTRL_STAT, SELECT}
 use Rattle.call.specs.Job.{Job, op, ◌>>=◌, ◌>>◌, return, fail, keeping, dp_write}
@@ -84,8 +83,8 @@ goes_on_of (A.Poll dpidr left) v = after_poll dpidr left v
 goes_on_of A.Pulse v = return 0
 
 abbrev pub phase_after : ConnectAt → Outcome → Job
-phase_after p (Value v) = goes_on_of p v
-phase_after p (Failed e) = fail e
+phase_after p (Ok v) = goes_on_of p v
+phase_after p (Err e) = fail e
 
 -- what the numbers of a call in flight say
 abbrev pub ways : List How

@@ -14,4 +14,4 @@ pub returns : goal.returns
 returns c =
     let a = c.args in
     ap (keep_some a.change) (saving_more a.left c.if-left-eq0.false a.plan)
-    ∙ (rw (c.register_at-reg.ensures, c.minus.ensures) at c.writing-2.ensures)
+    ∙ (rw (c.from.ensures, c.register_at-reg.ensures, c.saturating_sub.ensures) at c.writing-2.ensures)

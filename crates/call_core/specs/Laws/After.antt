@@ -1,8 +1,7 @@
 -- What follows each operation of a call: the table of phases. Serves the proofs only.
-use Rattle.std.specs.Prelude.{ℕ, ◌+◌, ◌-◌, ◌*◌, ◌/◌, ◌%◌, Bool, true, false, cond, eqb}
+use Rattle.std.specs.Prelude.{ℕ, ◌+◌, ◌-◌, ◌*◌, ◌/◌, ◌%◌, Bool, true, false, cond, eqb, Ok, Err}
 use Rattle.wire.specs.declared.ArmError.{ArmError}
-use Rattle.wire.specs.declared.Outcome.{Outcome}
-use Rattle.wire.specs.declared.Outcome.TheVariants.{Value, Failed}
+use Rattle.wire.specs.Outcomes.{Outcome}
 use Rattle.call.specs.Job.{Job, ends, attempt, or_fail, ◌>>=◌, ◌>>◌, return, fail, keeping, read_word_of, write_word}
 use Rattle.call_at.specs.declared.At.{At}
 use Rattle.call.specs.declared.Change.TheVariants as C
@@ -22,6 +21,7 @@ use Rattle.call_core.specs.Function.{
   finishing,
   BKPT_TWICE,
 }
+use Rattle.call_core.specs.Frame.{starts_with}
 use Rattle.call_places.specs.declared.Wait.{Wait}
 use Rattle.call_places.specs.declared.Wait.TheVariants as W
 use Rattle.call_places.specs.declared.AccessAt.{AccessAt}
@@ -137,7 +137,7 @@ over_on false waited = write_word DHCSR (DBGKEY + C_DEBUGEN + C_HALT) >> resulti
 -- a function's call from its start
 abbrev pub beginning : Function → Bool → ℕ → Job
 beginning f finish polls =
-    keeping (C.Registers f.a0 f.a1 f.a2 f.a3 f.sp (f.trampoline - f.trampoline % 2 + 1) f.fn_addr)
+    keeping (C.Registers (starts_with f))
     >> saving 8 (record { trampoline = f.trampoline; finish = finish; polls = polls })
 
 -- what follows an access, by what it is for
@@ -160,12 +160,12 @@ abbrev pub stops_at : CoreAt → ArmError → Job
 stops_at (P.Access p t) e = fail e
 stops_at (P.Find step low s) e = fail e
 stops_at (P.Run step left p) e = fail e
-stops_at (P.Wait left) e = after_wait (Failed e)
+stops_at (P.Wait left) e = after_wait (Err e)
 stops_at (P.Over unmasked waited) e = fail e
 
 abbrev pub phase_after : CoreAt → Outcome → Job
-phase_after p (Value v) = goes_on_of p v
-phase_after p (Failed e) = stops_at p e
+phase_after p (Ok v) = goes_on_of p v
+phase_after p (Err e) = stops_at p e
 
 abbrev pub core_after : At → Outcome → Job
 core_after at o = phase_after (core_at_of at) o

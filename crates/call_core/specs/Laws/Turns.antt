@@ -1,11 +1,10 @@
 -- The loops of After turn by turn, as the code takes them. Serves the proofs only.
 use Prim.Native.Nat.{ℕ, zero, suc, ◌+◌, ◌-◌, ◌*◌, ◌/◌, ◌%◌}
-use Rattle.std.specs.Prelude.{true, false, cond, ◌≡◌, refl, eqb, get_or}
+use Rattle.std.specs.Prelude.{true, false, cond, ◌≡◌, refl, eqb, get_or, Err}
 use Rattle.std.proofs.Math.Path.{ap}
 use Rattle.std.proofs.Common.{◌∙◌, arith}
 use Rattle.wire.specs.Laws.Numbers.{less}
 use Rattle.wire.specs.declared.ArmError.TheVariants as E
-use Rattle.wire.specs.declared.Outcome.TheVariants.{Failed}
 use Rattle.wire_memap.specs.declared.Op.TheVariants as O
 use Rattle.call.specs.Job.{Job, op, attempt, ◌>>=◌, ◌>>◌, return, fail, keeping, write_word}
 use Rattle.call.specs.Laws.Job.{bind_assoc}
@@ -56,10 +55,10 @@ polled_on W.Read left v h = simp h
 polled_on W.Write left v h = simp h
 
 pub finish_more : (n : ℕ) → (n ≡ 0 → ⊥) → finishing n ≡ op (O.ReadWord DHCSR) (λ v. attempt (polled W.Halt (n - 1) v) after_wait)
-    (λ e. after_wait (Failed e))
+    (λ e. after_wait (Err e))
 unfolding wait_status
 finish_more zero h = absurd (h refl)
-finish_more (suc n) h = ap (λ (j : ℕ). op (O.ReadWord DHCSR) (λ v. attempt (polled W.Halt j v) after_wait) (λ e. after_wait (Failed e))) (less n)
+finish_more (suc n) h = ap (λ (j : ℕ). op (O.ReadWord DHCSR) (λ v. attempt (polled W.Halt j v) after_wait) (λ e. after_wait (Err e))) (less n)
 
 pub look_more : (s : Search) → (s.left ≡ 0 → ⊥) → look_from s.want s.table s.left ≡ (read_entry (entry_of s) >>= matching s)
 unfolding look_from

@@ -1,7 +1,6 @@
 -- What follows each operation of a memory call. Serves the proofs only.
-use Rattle.std.specs.Prelude.{ℕ, ◌-◌, ◌*◌, ◌%◌, Bool, true, false, List, [], ◌∷◌, get_or}
-use Rattle.wire.specs.declared.Outcome.{Outcome}
-use Rattle.wire.specs.declared.Outcome.TheVariants.{Value, Failed}
+use Rattle.std.specs.Prelude.{ℕ, ◌-◌, ◌*◌, ◌%◌, Bool, true, false, List, [], ◌∷◌, get_or, Ok, Err}
+use Rattle.wire.specs.Outcomes.{Outcome}
 use Rattle.wire_memap.specs.declared.Op.TheVariants as O
 use Rattle.call.specs.Job.{Job, ◌>>◌, return, fail, just, keeping}
 use Rattle.call_at.specs.declared.At.{At}
@@ -34,8 +33,8 @@ goes_on_of (A.Turn T.PartRead m) v =
 goes_on_of (A.Turn T.PartWritten m) v = rest false m m.size
 
 abbrev pub phase_after : MemoryAt → Outcome → Job
-phase_after p (Value v) = goes_on_of p v
-phase_after p (Failed e) = fail e
+phase_after p (Ok v) = goes_on_of p v
+phase_after p (Err e) = fail e
 
 -- what the numbers of a call in flight say
 abbrev pub mem_of : At → Mem

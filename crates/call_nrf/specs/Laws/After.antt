@@ -1,9 +1,8 @@
 -- What follows each operation of a Nordic call. Serves the proofs only: the table of phases, and that it is the calls as written.
-use Rattle.std.specs.Prelude.{ℕ, zero, suc, ◌-◌, ◌%◌, Bool, true, cond, ◌≡◌, refl, eqb}
+use Rattle.std.specs.Prelude.{ℕ, zero, suc, ◌-◌, ◌%◌, Bool, true, cond, ◌≡◌, refl, eqb, Ok, Err}
 use Rattle.std.proofs.Common.{ap}
 use Rattle.wire.specs.Laws.Numbers.{less}
-use Rattle.wire.specs.declared.Outcome.{Outcome}
-use Rattle.wire.specs.declared.Outcome.TheVariants.{Value, Failed}
+use Rattle.wire.specs.Outcomes.{Outcome}
 use Rattle.wire_memap.specs.declared.Op.{Op}
 use Rattle.wire_memap.specs.declared.Op.TheVariants as O
 use Rattle.call.specs.Job.{Job, op, ends, ◌>>◌, return, fail, just, ap_write, write_word}
@@ -83,6 +82,12 @@ abbrev pub enabling : Chip → Program → Job
 enabling Nrf52 p = write_word nrf52.NVMC_CONFIG nrf52.NVMC_CONFIG_WEN >> waiting Nrf52 (F.Words p) p.polls
 enabling Nrf54 p = write_word nrf54.RRAMC_CONFIG nrf54.RRAMC_CONFIG_WEN >> programming Nrf54 p
 
+-- both chips are opened by the same word in a register of their own
+pub enabling_is : (chip : Chip) (p : Program)
+    → enabling chip p ≡ writes chip (O.WriteWord (config chip) nrf52.NVMC_CONFIG_WEN) p.polls (F.Words p)
+enabling_is Nrf52 p = refl
+enabling_is Nrf54 p = refl
+
 abbrev pub flash_after : FlashStep → Chip → Flash → ℕ → Job
 flash_after (S.Settle polls) chip then v = waiting chip then polls
 flash_after (S.Wait left) chip then v = after_ready chip then left v
@@ -90,7 +95,7 @@ flash_after S.Next chip then v = flashing chip then
 
 abbrev pub goes_on_of : NrfAt → ℕ → Job
 goes_on_of A.Idr v = read_status (eqb v nrf52.CTRLAP_IDR_VALUE)
-goes_on_of (A.Status known) v = leaves (Value (answer known v))
+goes_on_of (A.Status known) v = leaves (Ok (answer known v))
 goes_on_of (A.EraseAll polls) v = poll_erased polls
 goes_on_of (A.Erasing left) v = after_erased left v
 goes_on_of (A.Reset erased) v = releasing erased
@@ -99,8 +104,8 @@ goes_on_of (A.Flash step chip then) v = flash_after step chip then v
 goes_on_of A.Last v = return 0
 
 abbrev pub phase_after : NrfAt → Outcome → Job
-phase_after p (Value v) = goes_on_of p v
-phase_after p (Failed e) = fail e
+phase_after p (Ok v) = goes_on_of p v
+phase_after p (Err e) = fail e
 
 abbrev pub nrf_after : At → Outcome → Job
 nrf_after at o = phase_after (nrf_at_of at) o

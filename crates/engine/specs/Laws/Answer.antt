@@ -6,9 +6,9 @@ use Rattle.wire.specs.Wire.{Wire, Memory, memory_of}
 use Rattle.wire.specs.Laws.Told.{outcome_of}
 use Rattle.wire_transfer.specs.Laws.Flight.{Mode, Transfer, transfer_of, flight}
 use Rattle.wire_transfer.specs.Laws.Flight as D
-use Rattle.wire.specs.declared.Answer.{Answer}
+use Rattle.wire.specs.Outcomes.{Answer}
 use Rattle.wire.specs.declared.Call.{Call}
-use Rattle.wire.specs.declared.Outcome.{Outcome}
+use Rattle.wire.specs.Outcomes.{Outcome}
 use Rattle.wire_numbers.specs.Results.{result_of}
 use Rattle.wire_numbers.specs.Numbers.{numbers_of}
 use Rattle.wire_numbers.specs.declared.CallEnding.{CallEnding}
@@ -29,7 +29,7 @@ use Rattle.engine.specs.declared.State.{State}
 use Rattle.engine.specs.declared.StepAnswer.{StepAnswer}
 
 -- the tree w tells the answer's next call or ending, its bytes, and the memory m
-pub record Tells (w : Wire) (next : NextStep) (bytes : List ℕ) (m : Memory) : Type 0 where
+pub record Tells (w : Wire) (next : NextStep CallEnding) (bytes : List ℕ) (m : Memory) : Type 0 where
   pub step : next ≡ next_of w
   pub hands : bytes ≡ padded (bytes_of w)
   pub memory : m ≡ memory_in w

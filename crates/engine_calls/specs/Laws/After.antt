@@ -1,9 +1,8 @@
 -- What a call asks for after the operation in flight. Serves the proofs only.
-use Rattle.std.specs.Prelude.{ℕ, ◌+◌, ◌*◌, ◌/◌, ◌%◌, List, [], ◌∷◌, ◌≡◌, get_or}
+use Rattle.std.specs.Prelude.{ℕ, ◌+◌, ◌*◌, ◌/◌, ◌%◌, List, [], ◌∷◌, ◌≡◌, get_or, Ok, Err}
 use Rattle.std.proofs.Common.{ap, sym, ◌∙◌, arith}
 use Rattle.wire.specs.Wire.{Memory}
-use Rattle.wire.specs.declared.Outcome.{Outcome}
-use Rattle.wire.specs.declared.Outcome.TheVariants.{Value, Failed}
+use Rattle.wire.specs.Outcomes.{Outcome}
 use Rattle.call.specs.Change.{changed}
 use Rattle.call.specs.Job.{Job, ends, exec}
 use Rattle.call.specs.Laws.Asks.{asks, next_job, exec_keep}
@@ -34,8 +33,8 @@ asks_job r = asks r.change r.next (call_after r.at)
 
 -- at step 0 the operation's outcome is the call's
 pub whole_after : (at : At) (o : Outcome) → at.step ≡ 0 → call_after at o ≡ ends o
-whole_after at (Value v) h = simp h
-whole_after at (Failed e) h = simp h
+whole_after at (Ok v) h = simp h
+whole_after at (Err e) h = simp h
 
 -- the numbers of a call in flight, with its group
 abbrev pub in_group : ℕ → At → At

@@ -2,7 +2,7 @@
 use mathlib.Core.Bool.{not}
 use mathlib.Core.Path.{ap, ◌∙◌}
 use Rattle.std.proofs.Common.{arith}
-use Rattle.engine_run.specs.Laws.Runs.{runs_turn, still_running, never_running}
+use Rattle.engine_run.specs.Laws.Runs.{runs_turn, still_running, never_running, stops_at_end}
 use Rattle.engine_run.proofs.run_on.Goals as goal
 
 pub returns-then-not-is_running : goal.returns-then-not-is_running
@@ -20,5 +20,5 @@ loop-i-preserved c = (
 )
 
 pub returns : goal.returns
-returns c = λ own w room₁ words₁ h.
-    record { runs = c.loop-i.invariant.3 own w room₁ words₁ h; over = λ _. omega arith }
+returns c = λ own w room₁ words₁ h. stops_at_end own w _ _ room₁ words₁ _ c.loop-i.i c.loop-i.t c.loop-i.m c.loop-i.c _ _ _ _ (omega arith)
+    (c.loop-i.invariant.3 own w room₁ words₁ h)

@@ -1,5 +1,5 @@
 -- Each turn is one transport call of the run (`runs_turn`). It stops where the call has ended or no answer is left.
-use Prim.Native.Nat.{ℕ, ◌-◌}
+use Prim.Native.Nat.{ℕ}
 use mathlib.Core.Bool.{Bool}
 use mathlib.Core.List.{List}
 use mathlib.Core.Path.{◌≡◌}
@@ -13,6 +13,3 @@ abbrev pub invariant-loop-i : goal.invariant-loop-i
 invariant-loop-i l = (length l.words ≡ length l.initial.words) × (length l.buf ≡ length l.initial.buf) × (length l.log ≡ length l.initial.log)
     × ((own : Bool) (w : Wire) (room₁ words₁ : List ℕ) → LentIn own w l.initial.t l.initial.m l.initial.c room₁ words₁ l.initial.room l.initial.words l.initial.buf
     → Runs own w l.limit l.answers room₁ words₁ l.initial.log l.i l.t l.m l.c l.room l.words l.buf l.log)
-
-abbrev pub decreases-loop-i : goal.decreases-loop-i
-decreases-loop-i l = l.limit - l.i

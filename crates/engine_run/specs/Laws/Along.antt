@@ -5,7 +5,7 @@ use Rattle.std.proofs.Common.{sym, ap, subst, ◌∙◌, arith, add-one, drop_of
 use Rattle.wire.specs.Wire.{Wire, Memory, done, ask, tell, follow, play, Played, made, spent}
 use Rattle.engine_words.specs.Laws.State.{DueIn}
 use Rattle.wire.specs.declared.Call.{Call}
-use Rattle.wire.specs.declared.Answer.{Answer}
+use Rattle.wire.specs.Outcomes.{Answer}
 use Rattle.wire_numbers.specs.Log.{answer_of, code_of, call_of}
 use Rattle.engine_run.specs.Run.{within, logged, Readable}
 

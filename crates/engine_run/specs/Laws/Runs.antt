@@ -5,8 +5,8 @@ use Rattle.wire.specs.Wire.{Wire, Memory, memory_of, done, follow, play, Played,
 use Rattle.wire.specs.Laws.Told.{outcome_of}
 use Rattle.wire_transfer.specs.Laws.Flight.{Mode, Transfer, transfer_of, flight}
 use Rattle.wire_transfer.specs.Laws.Flight as D
-use Rattle.wire.specs.declared.Outcome.{Outcome}
-use Rattle.wire.specs.declared.Answer.{Answer}
+use Rattle.wire.specs.Outcomes.{Outcome}
+use Rattle.wire.specs.Outcomes.{Answer}
 use Rattle.wire_memap.specs.Laws.Doing.{remembered_of, stands, Remembers}
 use Rattle.wire_numbers.specs.Log.{answer_of, code_of, call_of}
 use Rattle.wire_numbers.specs.Results.{ending_of}
@@ -126,6 +126,14 @@ reports_none i l₀ l p x r ws b al n e =
 pub record Stops (own : Bool) (w : Wire) (limit : ℕ) (xs room₀ words₀ l₀ : List ℕ) (n : ℕ) (t m c room words b l : List ℕ) : Type 0 where
   pub runs : Runs own w limit xs room₀ words₀ l₀ n t m c room words b l
   pub over : running c ≡ true → limit ≤ n
+
+-- where no answer is left
+pub stops_at_end : (own : Bool) (w : Wire) (limit : ℕ) (xs room₀ words₀ l₀ : List ℕ) (n : ℕ) (t m c room words b l : List ℕ) → n ≡ limit
+    → Runs own w limit xs room₀ words₀ l₀ n t m c room words b l → Stops own w limit xs room₀ words₀ l₀ limit t m c room words b l
+stops_at_end own w limit xs room₀ words₀ l₀ n t m c room words b l e r = record {
+  runs = subst (λ (i : ℕ). Runs own w limit xs room₀ words₀ l₀ i t m c room words b l) e r;
+  over = λ _. omega arith;
+}
 
 stop_at : (going : Bool) (own : Bool) (w : Wire) (limit : ℕ) (xs room₀ words₀ l₀ : List ℕ) (n : ℕ) (t m c room words b l : List ℕ) (r : Ran)
     → running c ≡ going → r.count ≡ n → r.ending ≡ ending_of (ending_as going c) → r.remembered ≡ remembered_of m

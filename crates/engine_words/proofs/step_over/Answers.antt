@@ -2,7 +2,7 @@
 use Rattle.engine_words.specs.Laws.Step.{step_finishes}
 use Rattle.engine_words.proofs.step_over.Goals as goal
 
-pub returns-in-Finished : goal.returns-in-Finished
-returns-in-Finished c =
+pub returns-in-Some : goal.returns-in-Some
+returns-in-Some c =
     let a = c.args in step_finishes a.a a.t.now a.m.now a.c.now a.ws.now a.buf.now _
-    c.in-Finished.is c.op_step.ensures c.finished.ensures
+    c.in-Some.is c.op_step.ensures c.finished.ensures

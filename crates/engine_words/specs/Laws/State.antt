@@ -8,7 +8,7 @@ use Rattle.wire_transfer.specs.Laws.Flight.{Mode, Transfer, transfer_of, flight}
 use Rattle.wire_transfer.specs.Laws.Flight as D
 use Rattle.wire.specs.declared.Call.{Call}
 use Rattle.wire.specs.Laws.Rows.{spelled}
-use Rattle.wire.specs.declared.Outcome.{Outcome}
+use Rattle.wire.specs.Outcomes.{Outcome}
 use Rattle.wire_memap.specs.Laws.Doing.{stands}
 use Rattle.wire_memap.specs.Laws.Flight.{started_tree}
 use Rattle.call.specs.Laws.Asks.{then_of}

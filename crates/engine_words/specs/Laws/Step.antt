@@ -1,18 +1,15 @@
 -- What the stores of the code leave, and why the words of a state stand for the rest of the call. Serves the proofs only.
-use Rattle.std.specs.Prelude.{ℕ, ◌+◌, ◌%◌, ◌<◌, Bool, true, false, cond, List, ◌≡◌, refl, eqb, ltb, set, length, get_or}
+use Rattle.std.specs.Prelude.{ℕ, ◌+◌, ◌%◌, ◌<◌, Bool, true, false, cond, List, ◌≡◌, refl, eqb, ltb, set, length, get_or, Ok, Option, None, Some}
 use Rattle.std.proofs.Common.{true≢false, sym, ap, subst, ◌∙◌, arith, lt-ltb, le-ltb}
 use Rattle.wire.specs.Wire.{Wire, Memory, memory_of, done, follow}
 use Rattle.wire.specs.declared.Remembered.{Remembered}
 use Rattle.wire.specs.Laws.Told.{outcome_of}
-use Rattle.wire.specs.declared.Answer.{Answer}
-use Rattle.wire.specs.declared.Answer.TheVariants.{Good}
-use Rattle.wire.specs.declared.Outcome.{Outcome}
+use Rattle.wire.specs.Outcomes.{Answer}
+use Rattle.wire.specs.Outcomes.{Outcome}
 use Rattle.wire_memap.specs.Ops.{perform}
 use Rattle.wire_memap.specs.Laws.Doing.{OpSized, remembered_of, stands, Remembers}
 use Rattle.wire_memap.specs.Laws.Flight.{Fits, Begun, Goes, Tries, step_tree}
 use Rattle.wire_memap.specs.declared.Op.{Op}
-use Rattle.wire_memap.specs.declared.Went.{Went}
-use Rattle.wire_memap.specs.declared.Went.TheVariants.{Moving, Finished}
 use Rattle.call.specs.Change.{changed}
 use Rattle.call.specs.Job.{Job, ends, exec}
 use Rattle.call.specs.Laws.Asks.{then_of, next_job, exec_op, then_is}
@@ -146,7 +143,7 @@ pub record StepsIn (a : Answer) (t₀ m₀ c₀ ws₀ b₀ t m c ws b : List ℕ
   pub steps : status_of c₀ ≡ Running → Fits t₀ m₀ → CallSized c₀
       → StandsFor (follow (flight_tree t₀ m₀ c₀ ws₀ b₀) a) (own_of c₀) t m c ws b
 
-pub step_moves : (a : Answer) (t₀ m₀ c₀ ws₀ b : List ℕ) {r : Went} {t m ws : List ℕ} → r ≡ Moving → (Fits t₀ m₀ → Goes (step_tree t₀ m₀ a ws₀) r t m ws)
+pub step_moves : (a : Answer) (t₀ m₀ c₀ ws₀ b : List ℕ) {r : Option Outcome} {t m ws : List ℕ} → r ≡ None → (Fits t₀ m₀ → Goes (step_tree t₀ m₀ a ws₀) r t m ws)
     → StepsIn a t₀ m₀ c₀ ws₀ b t m c₀ ws b
 step_moves a t₀ m₀ c₀ ws₀ b {r} {t} {m} {ws} e g = record {
   steps = λ run f s. record {
@@ -158,8 +155,8 @@ step_moves a t₀ m₀ c₀ ws₀ b {r} {t} {m} {ws} e g = record {
   };
 }
   where
-    h : Fits t₀ m₀ → Goes (step_tree t₀ m₀ a ws₀) Moving t m ws
-    h f = subst (λ (x : Went). Goes (step_tree t₀ m₀ a ws₀) x t m ws) e (g f)
+    h : Fits t₀ m₀ → Goes (step_tree t₀ m₀ a ws₀) None t m ws
+    h f = subst (λ (x : Option Outcome). Goes (step_tree t₀ m₀ a ws₀) x t m ws) e (g f)
 
 -- what follows an operation that has come to the outcome o
 pub record FinishesIn (o : Outcome) (t₀ m₀ c₀ ws₀ b₀ t m c ws b : List ℕ) : Type 0 where
@@ -176,14 +173,14 @@ finish_asks o t₀ m₀ c₀ ws₀ b₀ x at is k = record {
   follows = λ run f s. stands_for (ap (λ (j : Job). exec j (stands m₀ ws₀ b₀)) (ap (λ (p : At). call_after p o) (sym at) ∙ is)) (k.asks run f s);
 }
 
-pub step_finishes : (a : Answer) (t₀ m₀ c₀ ws₀ b₀ : List ℕ) {r : Went} {t₁ m₁ ws₁ : List ℕ} (o : Outcome) {t m c ws b : List ℕ} → r ≡ Finished o
+pub step_finishes : (a : Answer) (t₀ m₀ c₀ ws₀ b₀ : List ℕ) {r : Option Outcome} {t₁ m₁ ws₁ : List ℕ} (o : Outcome) {t m c ws b : List ℕ} → r ≡ Some o
     → (Fits t₀ m₀ → Goes (step_tree t₀ m₀ a ws₀) r t₁ m₁ ws₁) → FinishesIn o t₁ m₁ c₀ ws₁ b₀ t m c ws b → StepsIn a t₀ m₀ c₀ ws₀ b₀ t m c ws b
 step_finishes a t₀ m₀ c₀ ws₀ b₀ {r} {t₁} {m₁} {ws₁} o e g k = record {
   steps = λ run f s. stands_for ((h f).tree b₀ _ ∙ then_is (call_after (at_of c₀)) (stands m₁ ws₁ b₀) o) (k.follows run (h f).fits s);
 }
   where
-    h : Fits t₀ m₀ → Goes (step_tree t₀ m₀ a ws₀) (Finished o) t₁ m₁ ws₁
-    h f = subst (λ (y : Went). Goes (step_tree t₀ m₀ a ws₀) y t₁ m₁ ws₁) e (g f)
+    h : Fits t₀ m₀ → Goes (step_tree t₀ m₀ a ws₀) (Some o) t₁ m₁ ws₁
+    h f = subst (λ (y : Option Outcome). Goes (step_tree t₀ m₀ a ws₀) y t₁ m₁ ws₁) e (g f)
 
 -- The same over a room and the caller's words, of which `own` says which one the call runs over; the other is unchanged.
 pub record LentIn (own : Bool) (w : Wire) (t m c room₀ words₀ room words b : List ℕ) : Type 0 where
@@ -280,11 +277,11 @@ pub record TriesIn (a : Answer) (r : Bool) (t₀ m₀ c room₀ t m room : List 
   pub goes : r ≡ true → running c ≡ true
   pub stays : r ≡ false → (t ≡ t₀) × (m ≡ m₀) × (room ≡ room₀)
 
-pub tries_in : (v : ℕ) (t₀ m₀ c room₀ : List ℕ) {r : Bool} {t m room : List ℕ} → get_or c 6 0 ≡ 0 → Tries (step_tree t₀ m₀ (Good v) room₀) r t₀ m₀ room₀ t m room
-    → TriesIn (Good v) r t₀ m₀ c room₀ t m room
+pub tries_in : (v : ℕ) (t₀ m₀ c room₀ : List ℕ) {r : Bool} {t m room : List ℕ} → get_or c 6 0 ≡ 0 → Tries (step_tree t₀ m₀ (Ok v) room₀) r t₀ m₀ room₀ t m room
+    → TriesIn (Ok v) r t₀ m₀ c room₀ t m room
 tries_in v t₀ m₀ c room₀ z g = record {
-  moved = λ e words b. steps_in false (Good v) t₀ m₀ c room₀ words b (ap (λ (n : ℕ). ltb n 2) z) (ap (λ (n : ℕ). eqb (n % 2) 1) z)
-      (step_moves (Good v) t₀ m₀ c room₀ b refl (g.moved e)) refl;
+  moved = λ e words b. steps_in false (Ok v) t₀ m₀ c room₀ words b (ap (λ (n : ℕ). ltb n 2) z) (ap (λ (n : ℕ). eqb (n % 2) 1) z)
+      (step_moves (Ok v) t₀ m₀ c room₀ b refl (g.moved e)) refl;
   goes = λ e. ap (λ (n : ℕ). ltb n 2) z;
   stays = g.stays;
 }

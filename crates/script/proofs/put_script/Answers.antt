@@ -5,10 +5,9 @@ use Rattle.script.specs.Output.{request_text}
 use Rattle.script.specs.Laws.Performing.{script_request}
 use Rattle.script.proofs.put_script.Goals as goal
 
-pub returns-in-Malformed : goal.returns-in-Malformed
+pub returns-in-None : goal.returns-in-None
 unfolding request_text
-returns-in-Malformed c =
+returns-in-None c =
     let r = script_request c.args.input.now
-    c.half.ensures
-    c.byte.ensures c.request_of-request.ensures in
-    (rw (sym r ∙ c.in-Malformed.is) c.put_malformed.ensures.0, omega arith)
+    (c.from-end.ensures ∙ c.half.ensures) c.byte.ensures c.request_of.ensures in
+    (rw (sym r ∙ c.in-None.is) c.put_malformed.ensures.0, omega arith)

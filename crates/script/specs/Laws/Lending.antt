@@ -47,42 +47,29 @@ module _ (n m : ℕ) {l : List ℕ} (h : n ≤ m) (e : l ≡ zeros m) where
   unfolding zeros
   part_zeros = ap (λ (x : List ℕ). take n x) e ∙ take_replicate n m h
 
-  pub part_length : length (take n l) ≡ n
-  part_length = ap length part_zeros ∙ length-replicate n 0
+-- nothing is loaded over the zeros of most calls
+pub untouched : {b : Buffer} {a ws bs : List ℕ} → Zeros b a ws bs → ((size : ℕ) → b ≡ B.GivenWords size → ⊥) → (b ≡ B.GivenBytes → ⊥)
+    → (ws ≡ words_of b a) × (bs ≡ bytes_of b a)
+unfolding words_of bytes_of
+untouched {b = B.Nothing} z h k = (z.words, z.buf)
+untouched {b = B.Words n} z h k = (z.words, z.buf)
+untouched {b = B.Bytes n} z h k = (z.words, z.buf)
+untouched {b = B.GivenWords size} z h k = absurd (h size refl)
+untouched {b = B.GivenBytes} z h k = absurd (k refl)
+untouched {b = B.Frame} z h k = (z.words, z.buf)
 
 module _ {b : Buffer} {a ws bs : List ℕ} (z : Zeros b a ws bs) where
-  word_length : length ws ≡ word_count b (length a)
-  word_length = ap length z.words ∙ length-replicate (word_count b (length a)) 0
-
-  byte_length : length bs ≡ byte_count b (length a)
-  byte_length = ap length z.buf ∙ length-replicate (byte_count b (length a)) 0
-
   pub few_words : {size : ℕ} → b ≡ B.GivenWords size → length ws ≡ (length a - size) / 4
-  few_words e = rw e at word_length
+  few_words {size} e = ap length z.words ∙ length-replicate (word_count b (length a)) 0 ∙ ap (λ b. word_count b (length a)) e
 
   pub few_bytes : b ≡ B.GivenBytes → length bs ≡ length a - 4
-  few_bytes e = rw e at byte_length
+  few_bytes e = ap length z.buf ∙ length-replicate (byte_count b (length a)) 0 ∙ ap (λ b. byte_count b (length a)) e
 
-  pub given_words : {size : ℕ} (w : List ℕ) → b ≡ B.GivenWords size → w ≡ row (word a) 4 (length ws) size → (w ≡ words_of b a) × (bs ≡ bytes_of b a)
+  pub given_words : {size : ℕ} (w : List ℕ) → b ≡ B.GivenWords size → length w ≡ length ws → w ≡ row (word a) 4 (length w) size
+      → (w ≡ words_of b a) × (bs ≡ bytes_of b a)
   unfolding words_of bytes_of
-  given_words {size} w e h = rw e (h ∙ ap (λ (n : ℕ). row (word a) 4 n size) (few_words e), rw e at z.buf)
+  given_words {size} w e l h = rw e (h ∙ ap (λ (n : ℕ). row (word a) 4 n size) (l ∙ few_words e), rw e at z.buf)
 
   pub given_bytes : (w : List ℕ) → b ≡ B.GivenBytes → w ≡ drop 4 a → (ws ≡ words_of b a) × (w ≡ bytes_of b a)
   unfolding words_of bytes_of
   given_bytes w e h = rw e (rw e at z.words, h)
-
-  pub no_buffer : b ≡ B.Nothing → (ws ≡ words_of b a) × (bs ≡ bytes_of b a)
-  unfolding words_of bytes_of
-  no_buffer e = rw e (rw e at z.words, rw e at z.buf)
-
-  pub zero_words : {n : ℕ} → b ≡ B.Words n → (ws ≡ words_of b a) × (bs ≡ bytes_of b a)
-  unfolding words_of bytes_of
-  zero_words e = rw e (rw e at z.words, rw e at z.buf)
-
-  pub zero_bytes : {n : ℕ} → b ≡ B.Bytes n → (ws ≡ words_of b a) × (bs ≡ bytes_of b a)
-  unfolding words_of bytes_of
-  zero_bytes e = rw e (rw e at z.words, rw e at z.buf)
-
-  pub zero_frame : b ≡ B.Frame → (ws ≡ words_of b a) × (bs ≡ bytes_of b a)
-  unfolding words_of bytes_of
-  zero_frame e = rw e (rw e at z.words, rw e at z.buf)

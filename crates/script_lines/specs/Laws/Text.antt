@@ -1,14 +1,14 @@
 -- Laws of the texts of numbers. Serves the proofs.
-use Rattle.std.specs.Prelude.{ℕ, zero, suc, ◌+◌, ◌-◌, ◌/◌, ◌%◌, ◌≤◌, ◌<◌, ◌≡◌, refl, List, [], ◌∷◌, ◌++◌, map, length, get_or, drop}
-use Rattle.std.proofs.Common.{ap, sym, subst, ◌∙◌, add-one, lt-ltb, le-ltb, le-leb, drop_of_length-le, drop-cons}
+use Rattle.std.specs.Prelude.{ℕ, zero, suc, ◌+◌, ◌-◌, ◌/◌, ◌%◌, ◌≤◌, ◌<◌, ◌≡◌, refl, List, [], ◌∷◌, ◌++◌, map, length, get_or, take}
+use Rattle.std.proofs.Common.{ap, sym, ◌∙◌, lt-ltb, le-ltb, le-leb, arith, add-zero, append_assoc, append-nil, length-take}
+use Rattle.std.proofs.lemmas.List.{take_more}
 use Rattle.std.proofs.lemmas.Bool.{lt-leb}
 use Rattle.wire.specs.Laws.Numbers.{less}
 use Rattle.wire_numbers.specs.declared.CallEnding.{CallEnding}
 use Rattle.wire_numbers.specs.Log.{call_of}
-use Rattle.script_lines.specs.Text.{space, digit, digits, hex, together}
-use Rattle.script_lines.specs.Listing.{call_line, call_lines, data_start, run_lines, listed}
+use Rattle.script_lines.specs.Text.{digit, digits, hex, together}
+use Rattle.script_lines.specs.Listing.{call_line, call_lines, run_lines, listed}
 use Rattle.script_lines.specs.declared.Shown.{Shown}
-use Rattle.script_lines.specs.Laws.Puts.{Puts, Left, left_puts, left_none}
 
 pub digits_none : (n : ℕ) → digits 0 n ≡ []
 unfolding digits
@@ -33,43 +33,37 @@ unfolding hex
 hex_more zero n h = absurd (h refl)
 hex_more (suc k) n h = ap (λ (j : ℕ). hex j (n / 16) ++ (digit (n % 16) ∷ [])) (less k)
 
-pub start_none : (n : ℕ) → n ≡ 0 → data_start n ≡ 0x44 ∷ []
-start_none n h = rw h
-
-pub start_some : (n : ℕ) → (n ≡ 0 → ⊥) → data_start n ≡ 0x44 ∷ space ∷ []
-start_some zero h = absurd (h refl)
-start_some (suc n) h = refl
-
--- one number more of a list that is put number by number
-pub left_more : (f : ℕ → List ℕ) (xs : List ℕ) (i : ℕ) {l₀ : List ℕ} {i₀ : ℕ} {t₀ l : List ℕ} {p : ℕ} {l₁ : List ℕ} {r : ℕ} → i < length xs
-    → Left l₀ i₀ t₀ l p (together f (drop i xs)) → Puts l p (f (get_or xs i 0)) l₁ r → Left l₀ i₀ t₀ l₁ r (together f (drop (i + 1) xs))
+-- the last item's text stands behind the others'
+together_last : {A : Type 0} (f : A → List ℕ) (ys : List A) (y : A) → together f (ys ++ y ∷ []) ≡ together f ys ++ f y
 unfolding together
-left_more f xs i {l₀} {i₀} {t₀} {l} {p} lt h q =
-    left_puts (together f (drop (i + 1) xs))
-    (subst (λ (ys : List ℕ). Left l₀ i₀ t₀ l p (together f ys)) (drop-cons xs i 0 lt ∙ ap (λ (n : ℕ). get_or xs i 0 ∷ drop n xs) (sym (add-one i))) h) q
+together_last f [] y = append-nil (f y)
+together_last f (z ∷ ys) y = ap (λ t. f z ++ t) (together_last f ys y) ∙ sym (append_assoc (f z) (together f ys) (f y))
 
-pub left_done : (f : ℕ → List ℕ) (xs : List ℕ) (i : ℕ) {l₀ : List ℕ} {i₀ : ℕ} {t₀ l : List ℕ} {p : ℕ} → length xs ≤ i
-    → Left l₀ i₀ t₀ l p (together f (drop i xs)) → Puts l₀ i₀ t₀ l p
-unfolding together
-left_done f xs i {l₀} {i₀} {t₀} {l} {p} le h = left_none (subst (λ (ys : List ℕ). Left l₀ i₀ t₀ l p (together f ys)) (drop_of_length-le xs le) h)
+-- one item more of a list that is put item by item
+pub together_more : {A : Type 0} (f : A → List ℕ) (xs : List A) (i : ℕ) (x : A) → i < length xs → x ≡ get_or xs i x
+    → together f (take (i + 1) xs) ≡ together f (take i xs) ++ f x
+together_more f xs i x lt e =
+    ap (λ ys. together f ys) (take_more xs i x lt ∙ ap (λ y. take i xs ++ y ∷ []) (sym e)) ∙ together_last f (take i xs) x
+
+lines_last : (n : ℕ) (ys : List ℕ) (y : ℕ) → call_lines n (map call_of (ys ++ y ∷ [])) ≡ call_lines n (map call_of ys) ++ call_line (n + length ys) (call_of y)
+unfolding call_lines
+lines_last n [] y = append-nil (call_line n (call_of y)) ∙ ap (λ k. call_line k (call_of y)) (sym (add-zero n))
+lines_last n (z ∷ ys) y =
+    ap (λ t. call_line n (call_of z) ++ t) (lines_last (suc n) ys y)
+    ∙ sym (append_assoc (call_line n (call_of z)) (call_lines (suc n) (map call_of ys)) (call_line (suc n + length ys) (call_of y)))
+    ∙ ap (λ k. call_line n (call_of z) ++ call_lines (suc n) (map call_of ys) ++ call_line k (call_of y)) (next n (length ys))
+  where
+    next : (n m : ℕ) → suc n + m ≡ n + suc m
+    next n m = omega arith
 
 -- the same of the lines of calls, whose numbers go up
-pub left_line : (xs : List ℕ) (i : ℕ) {l₀ : List ℕ} {i₀ : ℕ} {t₀ l : List ℕ} {p : ℕ} {l₁ : List ℕ} {r : ℕ} → i < length xs
-    → Left l₀ i₀ t₀ l p (call_lines (i + 1) (map call_of (drop i xs))) → Puts l p (call_line (i + 1) (call_of (get_or xs i 0))) l₁ r
-    → Left l₀ i₀ t₀ l₁ r (call_lines (i + 1 + 1) (map call_of (drop (i + 1) xs)))
-unfolding call_lines
-left_line xs i {l₀} {i₀} {t₀} {l} {p} lt h q =
-    left_puts (call_lines (i + 1 + 1) (map call_of (drop (i + 1) xs)))
-    (subst (λ (n : ℕ). Left l₀ i₀ t₀ l p (call_line (i + 1) (call_of (get_or xs i 0)) ++ call_lines n (map call_of (drop (i + 1) xs)))) (sym (add-one
-    (i + 1)))
-    (subst (λ (ys : List ℕ). Left l₀ i₀ t₀ l p (call_lines (i + 1) (map call_of ys))) (drop-cons xs i 0 lt
-    ∙ ap (λ (n : ℕ). get_or xs i 0 ∷ drop n xs) (sym (add-one i))) h)) q
-
-pub left_lines : (xs : List ℕ) (i n : ℕ) {l₀ : List ℕ} {i₀ : ℕ} {t₀ l : List ℕ} {p : ℕ} → length xs ≤ i
-    → Left l₀ i₀ t₀ l p (call_lines n (map call_of (drop i xs))) → Puts l₀ i₀ t₀ l p
-unfolding call_lines
-left_lines xs i n {l₀} {i₀} {t₀} {l} {p} le h =
-    left_none (subst (λ (ys : List ℕ). Left l₀ i₀ t₀ l p (call_lines n (map call_of ys))) (drop_of_length-le xs le) h)
+pub lines_more : (xs : List ℕ) (i : ℕ) → i < length xs
+    → call_lines 1 (map call_of (take (i + 1) xs)) ≡ call_lines 1 (map call_of (take i xs)) ++ call_line (i + 1) (call_of (get_or xs i 0))
+lines_more xs i lt =
+    let e : length (take i xs) ≡ i = grind (arith, length-take) in
+    let n : 1 + length (take i xs) ≡ i + 1 = omega arith in
+    ap (λ ys. call_lines 1 (map call_of ys)) (take_more xs i 0 lt) ∙ lines_last 1 (take i xs) (get_or xs i 0)
+    ∙ ap (λ n. call_lines 1 (map call_of (take i xs)) ++ call_line n (call_of (get_or xs i 0))) n
 
 module _ (log : List ℕ) (e : CallEnding) (s : Shown) (words buf : List ℕ) where
   pub listed_all : length log + length words + length buf ≤ 0xFFFFFFFF → listed log e s words buf ≡ run_lines log e s words buf

@@ -7,10 +7,10 @@ use Rattle.wire.specs.declared.Call.{Call}
 use Rattle.wire_numbers.specs.Numbers.{numbers_of}
 use Rattle.wire_numbers.specs.Results.{ending_of}
 use Rattle.wire_numbers.specs.Laws.Result.{number_tells}
+use Rattle.wire_numbers.specs.declared.CallEnding.{CallEnding}
 use Rattle.wire_numbers.specs.declared.TransportCall.{TransportCall}
 use Rattle.engine.specs.Step.{next_of, bytes_of, Steps}
 use Rattle.engine.specs.declared.NextStep.{NextStep}
-use Rattle.engine.specs.declared.NextStep.TheVariants as E
 use Rattle.engine.specs.declared.StepAnswer.{StepAnswer}
 use Rattle.session_phase.specs.Phase.{Now, over, due, now_of, phase_now, phase_due, phase_ended}
 use Rattle.session_phase.specs.Laws.Phase.{spent_closed}
@@ -19,25 +19,25 @@ use Rattle.session_phase.specs.declared.Phase.{Phase}
 use Rattle.session_phase.specs.declared.Phase.TheVariants as P
 use Rattle.session_calls.specs.Session.{lending}
 use Rattle.session.specs.Answer.{numbered, next_by, bytes_by, Answers}
-use Rattle.session.specs.declared.SessionNext.{SessionNext}
-use Rattle.session.specs.declared.SessionNext.TheVariants as N
+use Rattle.engine.specs.declared.NextStep.TheVariants as N
+use Rattle.session.specs.declared.SessionEnding.{SessionEnding}
 use Rattle.session.specs.declared.SessionAnswer.{SessionAnswer}
 
-abbrev pub due_under : ℕ → ℕ → TransportCall → SessionNext
+abbrev pub due_under : ℕ → ℕ → TransportCall → NextStep SessionEnding
 due_under left made c = cond (eqb left 0) (N.Finish (numbered (ending_of spent) made)) (N.Make c)
 
-abbrev pub next_under_of : ℕ → ℕ → NextStep → SessionNext
-next_under_of left made (E.Make c) = due_under left made c
-next_under_of left made (E.Finish e) = N.Finish (numbered e made)
+abbrev pub next_under_of : ℕ → ℕ → NextStep CallEnding → NextStep SessionEnding
+next_under_of left made (N.Make c) = due_under left made c
+next_under_of left made (N.Finish e) = N.Finish (numbered e made)
 
 -- number 0 is success
-abbrev pub phase_under : Kind → Bool → ℕ → NextStep → Phase
-phase_under kind lost left (E.Make c) = phase_due kind lost left
-phase_under kind lost left (E.Finish e) = phase_ended kind lost (eqb e.number 0)
+abbrev pub phase_under : Kind → Bool → ℕ → NextStep CallEnding → Phase
+phase_under kind lost left (N.Make c) = phase_due kind lost left
+phase_under kind lost left (N.Finish e) = phase_ended kind lost (eqb e.number 0)
 
-abbrev pub bytes_under : ℕ → NextStep → List ℕ → List ℕ
-bytes_under left (E.Make c) bytes = cond (eqb left 0) (padded []) bytes
-bytes_under left (E.Finish e) bytes = bytes
+abbrev pub bytes_under : ℕ → NextStep CallEnding → List ℕ → List ℕ
+bytes_under left (N.Make c) bytes = cond (eqb left 0) (padded []) bytes
+bytes_under left (N.Finish e) bytes = bytes
 
 -- the session and its reply after the engine's answer x
 abbrev pub settled_by : Kind → Bool → (limit more : ℕ) → StepAnswer → SessionAnswer
@@ -82,7 +82,7 @@ module _ (left : ℕ) where
   bytes_under_lem (tell m c w) = bytes_due c (eqb left 0)
 
 -- and by what the engine told of it
-module _ (left : ℕ) (w : Wire) (n : NextStep) (h : n ≡ next_of w) where
+module _ (left : ℕ) (w : Wire) (n : NextStep CallEnding) (h : n ≡ next_of w) where
   next_at : (made : ℕ) → next_under_of left made n ≡ next_by made (now_of left w)
   next_at made = ap (next_under_of left made) h ∙ next_under left made w
 
@@ -91,7 +91,7 @@ module _ (left : ℕ) (w : Wire) (n : NextStep) (h : n ≡ next_of w) where
 
   bytes_at : (bytes : List ℕ) → bytes ≡ padded (bytes_of w) → bytes_under left n bytes ≡ padded (bytes_by (now_of left w))
   bytes_at bytes e =
-      ap (λ (x : NextStep). bytes_under left x bytes) h ∙ ap (bytes_under left (next_of w)) e ∙ bytes_under_lem left w
+      ap (λ (x : NextStep CallEnding). bytes_under left x bytes) h ∙ ap (bytes_under left (next_of w)) e ∙ bytes_under_lem left w
 
 -- where the engine's answer reports a tree, so does the session's
 pub settles : (kind : Kind) (lost : Bool) (limit more : ℕ) (w : Wire) (x : StepAnswer) (room list buf : List ℕ) → Steps w x room buf

@@ -1,9 +1,8 @@
 -- Breakpoints at odd addresses (02, h), over any session, whatever is lent and whatever would be answered. Serves no proof.
-use Rattle.std.specs.Prelude.{◌%◌, true, false, List, [], ◌≡◌}
-use Rattle.wire.specs.declared.Answer.{Answer}
+use Rattle.std.specs.Prelude.{◌%◌, true, false, List, [], ◌≡◌, Ok}
+use Rattle.wire.specs.Outcomes.{Answer}
 use Rattle.call_fpb.specs.declared.FpbCall.{FpbCall}
 use Rattle.session_rules.specs.declared.Refusal.TheVariants as R
-use Rattle.session_rules.specs.declared.Check.TheVariants.{Pass}
 use Rattle.session_calls.specs.Calls.{breakpoint}
 use Rattle.session_calls.specs.Session.{Standing, Lent, refused, called, checked}
 use Rattle.session_calls.specs.declared.SessionCall.TheVariants as S
@@ -20,5 +19,5 @@ module _ (s : Standing) (c : FpbCall) (l : Lent) (answers : List Answer) where
   closed_first o = simp o
 
   -- an even address, of any halfword, is the engine's call
-  even_passes : s.is_open ≡ true → breakpoint c % 2 ≡ 0 → called s (S.Fpb c) l answers ≡ checked Pass s (S.Fpb c) l answers
+  even_passes : s.is_open ≡ true → breakpoint c % 2 ≡ 0 → called s (S.Fpb c) l answers ≡ checked (Ok tt) s (S.Fpb c) l answers
   even_passes o even = simp (o, even)

@@ -6,9 +6,9 @@ use Rattle.std.proofs.Math.Path.{refl, ap, fun_ext}
 use Rattle.std.proofs.Common.{sym, ◌∙◌}
 use native.Mathlib.Omega.{arith}
 use Rattle.wire.specs.Wire.{Wire, Memory, done, ask, tell, play, Played, made, ended, spent}
-use Rattle.wire.specs.declared.Answer.{Answer}
+use Rattle.wire.specs.Outcomes.{Answer}
 use Rattle.wire.specs.declared.Call.{Call}
-use Rattle.wire.specs.declared.Outcome.{Outcome}
+use Rattle.wire.specs.Outcomes.{Outcome}
 use Rattle.call.specs.Job.{Job, exec}
 use Rattle.session_calls.specs.Plan.{alone, graft, plan_tree}
 

@@ -10,8 +10,8 @@ use Rattle.session_steps.proofs.begun.Goals as goal
 pub returns : goal.returns
 returns c =
     let t = c.args in
-    let kind = ap (λ (f : Facts). f.kind) c.facts_of-facts.ensures in
-    let x = starts t.s t.o.call t.room.now t.list.now t.buf.now kind c.engine_call-e.ensures
-    (c.remembered_for-r.ensures ∙ ap (λ (r : Remembered). remembered_for c.facts_of-facts.result.kind r) c.remembered.ensures)
+    let kind = ap (λ (f : Facts). f.kind) c.facts_of-kind.ensures in
+    let x = starts t.s t.o.call t.room.now t.list.now t.buf.now kind c.into.ensures
+    (c.remembered_for-r.ensures ∙ ap (λ (r : Remembered). remembered_for c.facts_of-kind.result.kind r) c.remembered.ensures)
     c.start-x.ensures in
     answers_as kind refl refl x.kept (settles _ _ _ _ _ _ _ _ _ x.steps c.settled.ensures)

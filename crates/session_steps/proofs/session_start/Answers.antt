@@ -4,9 +4,9 @@ use Rattle.session_calls.specs.Session.{lending}
 use Rattle.session_steps.specs.Laws.Starts.{refused_as, started_by}
 use Rattle.session_steps.proofs.session_start.Goals as goal
 
-pub returns-in-Refuse : goal.returns-in-Refuse
-returns-in-Refuse c =
+pub returns-in-Err : goal.returns-in-Err
+returns-in-Err c =
     let t = c.args in
     started_by t.s t.o (lending t.room.now t.list.now t.buf.now) _ _ _ c.is_open.ensures c.facts_of-facts.ensures
-    c.check_call.ensures c.in-Refuse.is
+    c.check_call.ensures c.in-Err.is
     (refused_as c.rest.ensures (c.refused.ensures t.room.now t.list.now t.buf.now))

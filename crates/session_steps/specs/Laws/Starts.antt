@@ -2,7 +2,7 @@
 use Rattle.std.specs.Prelude.{ℕ, Bool, false, cond, List, ◌≡◌, refl, length}
 use Rattle.std.proofs.Common.{sym, ap, subst, ◌∙◌}
 use Rattle.wire.specs.Wire.{Wire, memory_of, follow}
-use Rattle.wire.specs.declared.Answer.{Answer}
+use Rattle.wire.specs.Outcomes.{Answer}
 use Rattle.wire.specs.declared.Remembered.{Remembered}
 use Rattle.engine_calls.specs.Calls.{job_of, lent, call_tree}
 use Rattle.engine_calls.specs.declared.EngineCall.{EngineCall}
@@ -15,7 +15,7 @@ use Rattle.session_phase.specs.Phase.{remembered_for}
 use Rattle.session_phase.specs.declared.Kind.{Kind}
 use Rattle.session_rules.specs.Refusals.{refusal}
 use Rattle.session_rules.specs.declared.Refusal.{Refusal}
-use Rattle.session_rules.specs.declared.Check.{Check}
+use Rattle.session_rules.specs.Refusals.{Check}
 use Rattle.session_rules.specs.declared.Facts.{Facts}
 use Rattle.session_calls.specs.Calls.{engine_call, facts_of, kind_of}
 use Rattle.session_calls.specs.Session.{Standing, Lent, lending, session_tree}

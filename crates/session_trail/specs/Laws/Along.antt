@@ -3,7 +3,7 @@ use Rattle.std.specs.Prelude.{false, ◌||◌, List, [], ◌∷◌, ◌++◌, �
 use Rattle.std.proofs.Common.{sym, ap}
 use Rattle.wire.specs.Wire.{Wire, done, ask, tell, follow, play, made, Ending, ended, spent}
 use Rattle.wire.specs.declared.Call.{Call}
-use Rattle.wire.specs.declared.Answer.{Answer}
+use Rattle.wire.specs.Outcomes.{Answer}
 use Rattle.engine.specs.Step.{memory_in}
 use Rattle.session_phase.specs.Phase.{loss}
 use Rattle.session_phase.specs.Laws.Phase.{or_more, or_none}

@@ -5,7 +5,7 @@ use Rattle.std.proofs.Common.{sym, ap, subst, ◌∙◌, arith, eqb-true}
 use Rattle.std.proofs.lemmas.Bool.{eqb-false}
 use Rattle.wire.specs.Bytes.{padded}
 use Rattle.wire.specs.Wire.{Wire, Memory, done, ask, tell, follow, Ending, spent, succeeds}
-use Rattle.wire.specs.declared.Answer.{Answer}
+use Rattle.wire.specs.Outcomes.{Answer}
 use Rattle.wire.specs.declared.Call.{Call}
 use Rattle.wire.specs.declared.Remembered.{Remembered}
 use Rattle.wire_numbers.specs.declared.TransportCall.{TransportCall}
@@ -21,14 +21,14 @@ use Rattle.session.specs.Answer.{standing, next_by, bytes_by, Answers, Refused}
 use Rattle.session_steps.specs.Step.{lost_by, SteppedIn, Stepped}
 use Rattle.session.specs.declared.Session.{Session}
 use Rattle.session.specs.declared.SessionEnding.{SessionEnding}
-use Rattle.session.specs.declared.SessionNext.{SessionNext}
-use Rattle.session.specs.declared.SessionNext.TheVariants as N
+use Rattle.engine.specs.declared.NextStep.{NextStep}
+use Rattle.engine.specs.declared.NextStep.TheVariants as N
 use Rattle.session.specs.declared.Reply.{Reply}
 use Rattle.session_trail.specs.Trail as T
 use Rattle.session_trail.specs.Trail.{asks, reports, Says}
 use Rattle.session_trail.specs.Laws.Along.{end_in, due_in_of}
 
-pub reply_is : (r : Reply) (n : SessionNext) (bytes : List ℕ) → r.next ≡ n → r.bytes ≡ bytes → r ≡ record { next = n; bytes = bytes }
+pub reply_is : (r : Reply) (n : NextStep SessionEnding) (bytes : List ℕ) → r.next ≡ n → r.bytes ≡ bytes → r ≡ record { next = n; bytes = bytes }
 reply_is r n bytes h k = rw (← h, ← k) refl
 
 -- How a call stands with n more transport calls allowed: it has ended, or the budget has, or the transport call c is due.
@@ -116,7 +116,7 @@ module _ (kind : Kind) (lost : Bool) (limit n : ℕ) (w : Wire) (given : List �
     where
       go : Stage n w → Due
       go (at_end g z) =
-          let y : ◌≡◌ {A = SessionNext} (N.Make x) (N.Finish _) = sym f ∙ h.next ∙ ap (next_by (limit - n)) g in
+          let y : ◌≡◌ {A = NextStep SessionEnding} (N.Make x) (N.Finish _) = sym f ∙ h.next ∙ ap (next_by (limit - n)) g in
           let z : ◌≡◌ {A = ℕ} 0 1 = cc in absurd (omega arith)
       go (at_call c g l e d) = record {
         runs = h.phase ∙ ap (phase_now kind lost) g;

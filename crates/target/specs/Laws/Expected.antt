@@ -1,6 +1,6 @@
 -- Equations that a reader expects of the definitions. They serve no proof.
 use Rattle.std.specs.Prelude.{false, ◌≡◌, refl, [], ℕ, ◌+◌, ◌*◌, ◌/◌, ◌%◌, ◌^◌, min, ◌≤◌}
-use Rattle.std.proofs.Common.{◌∙◌, mod-lt, arith, pow_pos, eq-eqb}
+use Rattle.std.proofs.Common.{◌∙◌, mod-lt, arith, pow_pos}
 use Rattle.std.proofs.Math.Nat.{mod-add-mod}
 use Rattle.std.proofs.Math.Arith.{digits_div, digits_mod}
 use Rattle.target.specs.declared.Target.{Target}

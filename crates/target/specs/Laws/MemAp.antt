@@ -1,17 +1,10 @@
--- What the increment of TAR keeps: whatever the width, the next TAR is a word, and within 1 KiB from ten bits on it is 4 more. A DRW
--- read by the word that memory has. Serves the proofs only.
-use Rattle.std.specs.Prelude.{Bool, true, false, cond, ◌≡◌, refl, List, ℕ, ◌+◌, ◌-◌, ◌*◌, ◌/◌, ◌%◌, ◌^◌, min, ◌≤◌, ◌<◌}
-use Rattle.std.proofs.Common.{sym, ap, ◌∙◌, subst, mod-lt, mod-eq_of_lt, div-mul-le_self, arith, pow_pos, pow-add, shr_lt}
+-- What the increment of TAR keeps: whatever the width, the next TAR is a word, and within 1 KiB from ten bits on it is 4 more.
+-- Serves the proofs only.
+use Rattle.std.specs.Prelude.{◌≡◌, ℕ, ◌+◌, ◌-◌, ◌*◌, ◌/◌, ◌%◌, ◌^◌, min, ◌≤◌, ◌<◌}
+use Rattle.std.proofs.Common.{mod-lt, mod-eq_of_lt, div-mul-le_self, arith, pow_pos, pow-add, shr_lt}
 use Rattle.std.proofs.Math.Nat.{mod-le}
 use Rattle.std.proofs.Math.Pow.{split, mod-mod-pow}
 use Rattle.std.proofs.Math.Arith.{digits_lt}
-use Rattle.target.specs.declared.Target.{Target}
-use Rattle.target.specs.declared.Done.{Done}
-use Rattle.target.specs.declared.Word.{Word}
-use Rattle.target.specs.declared.Word.TheVariants.{Value, Absent}
-use Rattle.target.specs.declared.ApRegister.TheVariants.{DrwRead}
-use Rattle.target.specs.Memory.{in_memory, load, loaded}
-use Rattle.target.specs.MemAp.{word_address_of, advanced, failed, posted, reach_ap}
 
 pub record Spanned (s tar : ℕ) : Type 0 where
   pub positive : 0 < s
@@ -45,19 +38,3 @@ goes_on width tar s w e h = let k : min width 32 - 10 + 10 ≡ min width 32 = om
     go j =
         rw (mod-eq_of_lt (room (2 ^ j) _ _ (pow-add 2 j 10) (mod-lt tar (pow_pos (j + 10))) (mod-mod-pow tar j 10)))
         (omega (arith, split tar (j + 10)))
-
--- a DRW read by what memory has
-abbrev drw_read : Target → Word → Done
-drw_read t (Value w) = posted (advanced t) w
-drw_read t Absent = posted (failed t) 0
-
-by_word : (t : Target) (b : Bool) (v : ℕ)
-    → cond b (posted (advanced t) v) (posted (failed t) 0) ≡ drw_read t (cond b (Value v) Absent)
-by_word t true v = refl
-by_word t false v = refl
-
-pub read_word : (t : Target) (m : List ℕ) {v : ℕ} → loaded t m (word_address_of t) ≡ Value v → posted (advanced t) v ≡ reach_ap DrwRead t m 0
-read_word t m {v} e = sym (by_word t (in_memory t m (word_address_of t)) (load t m (word_address_of t)) ∙ ap (drw_read t) e)
-
-pub read_absent : (t : Target) (m : List ℕ) → loaded t m (word_address_of t) ≡ Absent → posted (failed t) 0 ≡ reach_ap DrwRead t m 0
-read_absent t m e = sym (by_word t (in_memory t m (word_address_of t)) (load t m (word_address_of t)) ∙ ap (drw_read t) e)

@@ -17,7 +17,7 @@ returns-in-Dp c =
     let e = transfer_at a.t a.mem.now a.request a.word _ c.decode-reg.ensures in
     let p = sym c.is_barred.ensures ∙ c.if-is_barred.false in
     let r = c.in-Dp.is in
-    (rw e (simp p (simp r (simp (c.answered.ensures, c.reach_dp.ensures)))), rw e (simp p (simp r)))
+    (rw e (simp p (simp r (simp (c.into.ensures, c.reach_dp.ensures)))), rw e (simp p (simp r)))
 
 pub returns-in-Ap : goal.returns-in-Ap
 returns-in-Ap c =
@@ -26,4 +26,4 @@ returns-in-Ap c =
     let p = sym c.is_barred.ensures ∙ c.if-is_barred.false in
     let r = c.in-Ap.is in
     let g = c.reach_ap.ensures in
-    (rw e (simp p (simp r (simp (c.answered-in-Ap.ensures, g.0)))), rw e (simp p (simp r g.1)))
+    (rw e (simp p (simp r (simp (c.into-in-Ap.ensures, g.0)))), rw e (simp p (simp r g.1)))

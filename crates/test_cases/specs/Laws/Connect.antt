@@ -1,16 +1,14 @@
 -- How call 3 goes over a target of the model while the line delivers: ten transport calls, and then polls until no read of
 -- CTRL/STAT is owed. Serves the proofs only: the polls are one induction, over the polls left and the reads owed. `connects` and
 -- `times_out` say it for every d.
-use Rattle.std.specs.Prelude.{ℕ, zero, suc, ◌+◌, ◌-◌, ◌≤◌, ◌<◌, Bool, true, false, ◌||◌, ◌&&◌, cond, List, [], ◌≡◌, refl, eqb}
+use Rattle.std.specs.Prelude.{ℕ, zero, suc, ◌+◌, ◌-◌, ◌≤◌, ◌<◌, Bool, true, false, ◌||◌, ◌&&◌, cond, List, [], ◌≡◌, refl, eqb, Ok, Err}
 use Rattle.std.proofs.Common.{sym, ap, subst, ◌∙◌, arith, le_of_suc-le-suc, not-suc-le-zero, ne_eqb}
 use Rattle.wire.specs.Laws.Numbers.{less}
 use Rattle.wire.specs.Wire.{Wire, Memory, memory_of, ask, play, Ending, ended}
 use Rattle.wire_transfer.specs.Transfer.{transfer, tries, raw}
 use Rattle.wire.specs.declared.Call.{Call}
 use Rattle.wire.specs.declared.Call.TheVariants as T
-use Rattle.wire.specs.declared.Answer.{Answer}
-use Rattle.wire.specs.declared.Answer.TheVariants.{Good}
-use Rattle.wire.specs.declared.Outcome.TheVariants.{Value, Failed}
+use Rattle.wire.specs.Outcomes.{Answer}
 use Rattle.wire.specs.declared.Remembered.{Remembered}
 use Rattle.wire.specs.declared.ArmError.TheVariants as E
 use Rattle.wire_memap.specs.Ops.{perform}
@@ -82,38 +80,38 @@ ends_poll k n v b m t mem e count h =
 
 -- fewer reads owed than polls: the acks come in time
 polls_end : (k n v b : ℕ) (m : Memory) (t : Target) (mem : List ℕ) → n < k → n < b
-    → Over (polling k v m) b (asked t n) mem (ended (Value v)) (suc n)
+    → Over (polling k v m) b (asked t n) mem (ended (Ok v)) (suc n)
 unfolding poll_acks exec perform transfer tries arrives play talk
 polls_end zero n v b m t mem h g = absurd (not-suc-le-zero h)
 polls_end (suc k) n v zero m t mem h g = absurd (not-suc-le-zero g)
 polls_end (suc k) zero v (suc b) m t mem h g =
-    ends_ask m _ _ b (asked t 0) mem (ended (Value v)) 0 _ refl (record { ends = record { ending = refl; calls = refl } })
+    ends_ask m _ _ b (asked t 0) mem (ended (Ok v)) 0 _ refl (record { ends = record { ending = refl; calls = refl } })
 polls_end (suc k) (suc n) v (suc b) m t mem h g =
-    ends_poll k n v b m t mem (ended (Value v)) (suc n) (polls_end k n v b m t mem (le_of_suc-le-suc h) (le_of_suc-le-suc g))
+    ends_poll k n v b m t mem (ended (Ok v)) (suc n) (polls_end k n v b m t mem (le_of_suc-le-suc h) (le_of_suc-le-suc g))
 
 -- as many owed as polls, or more
 polls_fail : (k n v b : ℕ) (m : Memory) (t : Target) (mem : List ℕ) → k ≤ n → k ≤ b
-    → Over (polling k v m) b (asked t n) mem (ended (Failed E.PowerUpTimeout)) k
+    → Over (polling k v m) b (asked t n) mem (ended (Err E.PowerUpTimeout)) k
 unfolding poll_acks exec play talk
 polls_fail zero n v b m t mem h g = record { ends = record { ending = refl; calls = refl } }
 polls_fail (suc k) zero v b m t mem h g = absurd (not-suc-le-zero h)
 polls_fail (suc k) (suc n) v zero m t mem h g = absurd (not-suc-le-zero g)
 polls_fail (suc k) (suc n) v (suc b) m t mem h g =
-    ends_poll k n v b m t mem (ended (Failed E.PowerUpTimeout)) k (polls_fail k n v b m t mem (le_of_suc-le-suc h) (le_of_suc-le-suc g))
+    ends_poll k n v b m t mem (ended (Err E.PowerUpTimeout)) k (polls_fail k n v b m t mem (le_of_suc-le-suc h) (le_of_suc-le-suc g))
 
 -- DPIDR is read and ABORT written although sticky is set, and this ABORT clears it
-dpidr_read : (t : Target) (mem : List ℕ) → line t mem (T.Transfer 2 0) Deliver ≡ record { answer = Good t.dpidr; target = t; mem = mem }
+dpidr_read : (t : Target) (mem : List ℕ) → line t mem (T.Transfer 2 0) Deliver ≡ record { answer = Ok t.dpidr; target = t; mem = mem }
 unfolding arrives
 dpidr_read t mem = go t.sticky
   where
     go : (s : Bool) → heard (answer_of (cond (s && false) (record { reply = fault; target = t; mem = mem }) (reach (Dp D.DpidrRead) t mem 0)).reply)
         (cond (s && false) (record { reply = fault; target = t; mem = mem }) (reach (Dp D.DpidrRead) t mem 0))
-        ≡ record { answer = Good t.dpidr; target = t; mem = mem }
+        ≡ record { answer = Ok t.dpidr; target = t; mem = mem }
     go true = refl
     go false = refl
 
 abort_written : (t : Target) (mem : List ℕ) → line t mem (T.Transfer 0 0x1E) Deliver ≡ record {
-  answer = Good 0;
+  answer = Ok 0;
   target = with_sticky t false;
   mem =
       mem;
@@ -124,15 +122,15 @@ abort_written t mem = go t.sticky
     go : (s : Bool) → heard (answer_of (cond (s && false) (record { reply = fault; target = t; mem = mem }) (reach
         (Dp D.AbortWrite) t mem 0x1E)).reply)
         (cond (s && false) (record { reply = fault; target = t; mem = mem }) (reach (Dp D.AbortWrite) t mem 0x1E))
-        ≡ record { answer = Good 0; target = with_sticky t false; mem = mem }
+        ≡ record { answer = Ok 0; target = with_sticky t false; mem = mem }
     go true = refl
     go false = refl
 
 -- power-up is asked for at DPBANKSEL 0
 power_asked : (t : Target) (mem : List ℕ) → powered t ≡ false
-    → line (with_select (with_sticky t false) 0) mem (T.Transfer 4 0x50000000) Deliver ≡ record { answer = Good 0; target = asked t t.d; mem = mem }
+    → line (with_select (with_sticky t false) 0) mem (T.Transfer 4 0x50000000) Deliver ≡ record { answer = Ok 0; target = asked t t.d; mem = mem }
 unfolding arrives
-power_asked t mem h = ap (λ (b : Bool). record { answer = Good 0; target = asked t (cond b t.owed t.d); mem = mem }) h
+power_asked t mem h = ap (λ (b : Bool). record { answer = Ok 0; target = asked t (cond b t.owed t.d); mem = mem }) h
 
 -- what every connect does once DPIDR is good
 set_up_ends : (v b : ℕ) (m : Memory) (t : Target) (mem : List ℕ) (e : Ending) (count : ℕ) → powered t ≡ false
@@ -175,14 +173,14 @@ call_ends budget m t mem e count h le k =
 
 module _ (r : Remembered) (words buf : List ℕ) (budget : ℕ) (t : Target) (mem : List ℕ) (h : Ready t) where
   -- d below 1024: connected, after ten transport calls and d + 1 polls
-  pub connects : t.d < 1024 → 11 + t.d ≤ budget → Ends (connecting r words buf budget t mem) (ended (Value t.dpidr)) (11 + t.d)
+  pub connects : t.d < 1024 → 11 + t.d ≤ budget → Ends (connecting r words buf budget t mem) (ended (Ok t.dpidr)) (11 + t.d)
   connects lt le =
-      let x = (call_ends budget (memory_of r zero_room buf) t mem (ended (Value t.dpidr)) (suc t.d) h (omega arith)
+      let x = (call_ends budget (memory_of r zero_room buf) t mem (ended (Ok t.dpidr)) (suc t.d) h (omega arith)
       (λ m. polls_end 1024 t.d t.dpidr (budget - 10) m t mem lt (omega arith))).ends in
       record { ending = x.ending; calls = omega (arith, x.calls) }
 
   -- d at least 1024: PowerUpTimeout, after ten transport calls and 1024 polls
-  pub times_out : 1024 ≤ t.d → 1034 ≤ budget → Ends (connecting r words buf budget t mem) (ended (Failed E.PowerUpTimeout)) 1034
+  pub times_out : 1024 ≤ t.d → 1034 ≤ budget → Ends (connecting r words buf budget t mem) (ended (Err E.PowerUpTimeout)) 1034
   times_out lt le =
-      (call_ends budget (memory_of r zero_room buf) t mem (ended (Failed E.PowerUpTimeout)) 1024 h (omega arith)
+      (call_ends budget (memory_of r zero_room buf) t mem (ended (Err E.PowerUpTimeout)) 1024 h (omega arith)
       (λ m. polls_fail 1024 t.d t.dpidr (budget - 10) m t mem lt (omega arith))).ends

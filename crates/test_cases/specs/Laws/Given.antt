@@ -1,10 +1,10 @@
 -- What 01's cases marked P speak of: the script and its listing, the calls and answers, the targets that call 3 meets.
 -- `Table.antt` has the cases.
-use Rattle.std.specs.Prelude.{ℕ, zero, suc, true, false, List, [], ◌∷◌, ◌++◌, ◌≡◌, length, replicate}
+use Rattle.std.specs.Prelude.{ℕ, zero, suc, true, false, List, [], ◌∷◌, ◌++◌, ◌≡◌, length, replicate, Err}
 use Rattle.wire.specs.Wire.{play, Played, Ending}
 use Rattle.wire.specs.declared.Remembered.{Remembered}
-use Rattle.wire.specs.declared.Answer.{Answer}
-use Rattle.wire.specs.declared.Answer.TheVariants.{SwdError}
+use Rattle.wire.specs.Outcomes.{Answer}
+use Rattle.wire.specs.declared.DapError.TheVariants.{SwdError}
 use Rattle.call_connect.specs.declared.ConnectCall.TheVariants as K
 use Rattle.call_memory.specs.declared.MemoryCall.TheVariants as M
 use Rattle.engine_calls.specs.Calls.{call_tree, zero_room}
@@ -53,7 +53,7 @@ one_transfer answers = play (call_tree (N.Memory (M.ApRegWrite 0 7)) known zero_
 -- n WAITs, and then other answers
 abbrev pub after_waits : ℕ → List Answer → List Answer
 after_waits zero rest = rest
-after_waits (suc n) rest = SwdError 2 ∷ after_waits n rest
+after_waits (suc n) rest = Err (SwdError 2) ∷ after_waits n rest
 
 -- call 13 reads 6 bytes at 0x20000003: a partial word, a run of one, a partial word
 abbrev pub six_bytes : List Answer → Played

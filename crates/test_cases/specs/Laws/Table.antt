@@ -1,14 +1,12 @@
 -- 01's cases marked P as one table, proved of the definitions: a field a case, in 01's order. `Given.antt` has the calls, answers
 -- and targets that it speaks of, `Connect.antt` the proof of the connects. Each holds for every value read, the connects for
 -- every target that meets 01's conditions, sticky or not, at every budget that suffices.
-use Rattle.std.specs.Prelude.{ℕ, ◌≤◌, List, [], ◌∷◌, ◌≡◌, refl, replicate}
+use Rattle.std.specs.Prelude.{ℕ, ◌≤◌, List, [], ◌∷◌, ◌≡◌, refl, replicate, Ok, Err, None, Some}
 use Rattle.std.proofs.Common.{arith}
 use Rattle.wire.specs.Wire.{memory_of, play, ended}
 use Rattle.wire_transfer.specs.Transfer.{transfer, tries, raw}
 use Rattle.wire.specs.declared.Remembered.{Remembered}
 use Rattle.wire.specs.declared.Call.TheVariants as C
-use Rattle.wire.specs.declared.Answer.TheVariants.{Good}
-use Rattle.wire.specs.declared.Outcome.TheVariants.{Value, Failed}
 use Rattle.wire.specs.declared.ArmError.TheVariants as E
 use Rattle.wire_memap.specs.Words.{pull, push}
 use Rattle.wire_memap.specs.Ops.{perform}
@@ -19,7 +17,6 @@ use Rattle.call_connect.specs.Connect.{ones, parity}
 use Rattle.call_memory.specs.Memory.{run_words, turns, memory_job}
 use Rattle.call_memory.specs.declared.MemoryCall.TheVariants as M
 use Rattle.call_fpb.specs.Breakpoint.{fpb_comp_value}
-use Rattle.call_fpb.specs.declared.CompValue.TheVariants as P
 use Rattle.engine_calls.specs.Calls.{call_tree, zero_room}
 use Rattle.engine_calls.specs.declared.EngineCall.TheVariants as N
 use Rattle.script_lines.specs.Text.{digits, hex, together}
@@ -36,30 +33,30 @@ pub record Table : Type 0 where
   -- 1. the listing above: what `dapscript` prints
   pub listed : output_of script ≡ listing
   -- 2. 64 WAITs then Ok: Ok, 65 calls
-  pub waits_64 : (v : ℕ) → Ends (one_transfer (after_waits 64 (Good v ∷ []))) (ended (Value 0)) 65
+  pub waits_64 : (v : ℕ) → Ends (one_transfer (after_waits 64 (Ok v ∷ []))) (ended (Ok 0)) 65
   -- 3. 65 WAITs: Wait, no ABORT, though there is budget for one
   pub waits_65 : (v : ℕ)
-      → ((one_transfer (after_waits 65 (Good v ∷ []))).ending ≡ ended (Failed E.Wait))
-      × ((one_transfer (after_waits 65 (Good v ∷ []))).calls ≡ replicate 65 (C.Transfer 1 7))
+      → ((one_transfer (after_waits 65 (Ok v ∷ []))).ending ≡ ended (Err E.Wait))
+      × ((one_transfer (after_waits 65 (Ok v ∷ []))).calls ≡ replicate 65 (C.Transfer 1 7))
   -- 4. call 3, DPIDR good, requests clear, line delivering, d = 1023: connected
   pub d_1023 : (r : Remembered) (words buf : List ℕ) (budget : ℕ) (t : Target) (mem : List ℕ) → Ready t → t.d ≡ 1023 → 1034 ≤ budget
-      → Ends (connecting r words buf budget t mem) (ended (Value t.dpidr)) 1034
+      → Ends (connecting r words buf budget t mem) (ended (Ok t.dpidr)) 1034
   -- 5. the same, d = 1024: PowerUpTimeout
   pub d_1024 : (r : Remembered) (words buf : List ℕ) (budget : ℕ) (t : Target) (mem : List ℕ) → Ready t → t.d ≡ 1024 → 1034 ≤ budget
-      → Ends (connecting r words buf budget t mem) (ended (Failed E.PowerUpTimeout)) 1034
+      → Ends (connecting r words buf budget t mem) (ended (Err E.PowerUpTimeout)) 1034
   -- 6. run at 0x200003FC: 1, however many words are left
   pub run_at_end : (words : ℕ) → 1 ≤ words → run_words 0x200003FC words ≡ 1
   -- 7. run at 0x20000400, 300 left: 64
   pub run_whole : run_words 0x20000400 300 ≡ 64
   -- 8. 6 bytes read at 0x20000003, CSW known, SELECT 0 remembered: 9 calls
   pub six_bytes_lem : (a b c d e f g h i : ℕ)
-      → Ends (six_bytes (Good a ∷ Good b ∷ Good c ∷ Good d ∷ Good e ∷ Good f ∷ Good g ∷ Good h ∷ Good i ∷ [])) (ended (Value 0)) 9
+      → Ends (six_bytes (Ok a ∷ Ok b ∷ Ok c ∷ Ok d ∷ Ok e ∷ Ok f ∷ Ok g ∷ Ok h ∷ Ok i ∷ [])) (ended (Ok 0)) 9
   -- 9. 1 byte written at 0x20000001: 6 calls
-  pub one_byte : (x a b c d e f : ℕ) → Ends (one_byte_of x (Good a ∷ Good b ∷ Good c ∷ Good d ∷ Good e ∷ Good f ∷ [])) (ended (Value 0)) 6
+  pub one_byte : (x a b c d e f : ℕ) → Ends (one_byte_of x (Ok a ∷ Ok b ∷ Ok c ∷ Ok d ∷ Ok e ∷ Ok f ∷ [])) (ended (Ok 0)) 6
   -- 10. breakpoint 0x102, revision 0: 0x80000101
-  pub breakpoint_v0 : fpb_comp_value 0x102 0 ≡ P.Some 0x80000101
+  pub breakpoint_v0 : fpb_comp_value 0x102 0 ≡ Some 0x80000101
   -- 11. breakpoint 0x20000101, revision 1: 0x20000101
-  pub breakpoint_v1 : fpb_comp_value 0x20000101 1 ≡ P.Some 0x20000101
+  pub breakpoint_v1 : fpb_comp_value 0x20000101 1 ≡ Some 0x20000101
   -- 12. TARGETSEL 0x01002927: parity 0
   pub parity_even : parity 0x01002927 ≡ 0
   -- 13. TARGETSEL 0x11002927: parity 1
@@ -88,11 +85,11 @@ table = record {
 
 -- the listing's call at every address, for every value read
 pub listed_any : (addr a b c d v : ℕ)
-    → play (call_tree (N.Memory (M.ReadWord addr)) fresh zero_room [] []) (Good a ∷ Good b ∷ Good c ∷ Good d ∷ Good v ∷ [])
+    → play (call_tree (N.Memory (M.ReadWord addr)) fresh zero_room [] []) (Ok a ∷ Ok b ∷ Ok c ∷ Ok d ∷ Ok v ∷ [])
     ≡ record {
       calls = C.Transfer 8 0 ∷ C.Transfer 1 0x23000012 ∷ C.Transfer 5 addr ∷ C.Transfer 0xF 0 ∷ C.Transfer 0xE 0 ∷ [];
       memory = memory_of known zero_room [];
-      ending = ended (Value v);
+      ending = ended (Ok v);
     }
 unfolding play exec memory_job perform transfer tries
 listed_any addr a b c d v = refl

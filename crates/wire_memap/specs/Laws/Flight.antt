@@ -1,30 +1,24 @@
 -- What an access and an operation in flight stand for. Serves the proofs only: each phase names what follows its transfer.
-use Rattle.std.specs.Prelude.{ℕ, zero, suc, ◌+◌, ◌-◌, ◌%◌, ◌<◌, ◌≤◌, Bool, true, false, List, ◌≡◌, refl, eqb, ltb, set, get_or}
+use Rattle.std.specs.Prelude.{ℕ, zero, suc, ◌+◌, ◌-◌, ◌%◌, ◌<◌, ◌≤◌, Bool, true, false, List, ◌≡◌, refl, eqb, ltb, set, get_or, Ok, Err, Option, None, Some}
 use Rattle.std.proofs.Common.{true≢false, sym, ap, subst, ◌∙◌, arith, le-leb, eq-eqb, ne_eqb, ltb-true, ltb-false, eqb-true, length-set}
 use Rattle.std.proofs.lemmas.Bool.{lt-leb}
 use Rattle.wire.specs.Wire.{Wire, Memory, follow}
-use Rattle.wire.specs.declared.Answer.{Answer}
-use Rattle.wire.specs.declared.Answer.TheVariants.{Good}
+use Rattle.wire.specs.Outcomes.{Answer}
 use Rattle.wire_transfer.specs.Count.{Counted}
 use Rattle.wire_transfer.specs.Transfer.{raw}
 use Rattle.wire_transfer.specs.Laws.Flight as W
-use Rattle.wire_transfer.specs.declared.Went as WW
 use Rattle.wire.specs.declared.Call.{Call}
-use Rattle.wire_transfer.specs.declared.Went.TheVariants.{Again, Ended}
 use Rattle.wire.specs.Laws.Numbers.{less}
 use Rattle.wire.specs.Laws.Rows.{none_below, none_from, past_rows, past, from_least}
 use Rattle.wire_transfer.specs.Laws.Flight.{Sized, transfer_of, transfer_tree, begun, begun_is, begun_sized, begun_counted}
 use Rattle.wire.specs.declared.ArmError.{ArmError}
-use Rattle.wire.specs.declared.Outcome.{Outcome}
-use Rattle.wire.specs.declared.Outcome.TheVariants.{Value, Failed}
+use Rattle.wire.specs.Outcomes.{Outcome}
 use Rattle.wire_memap.specs.Action.{Then, Action, on_value, ◌>>◌, return, cond, transferring, remember, remembering}
 use Rattle.wire_memap.specs.Ports.{select_of, selected, csw_known, ap_access, ap_write, ap_read, dp_read, ensure_csw, dp_reading, dp_writing, ap_reading, ap_writing, CSW_DEFAULT, SELECT, RDBUFF, TAR, DRW}
 use Rattle.wire_memap.specs.Words.{flush, place, pull, push, push_all, row_at}
 use Rattle.wire_memap.specs.Laws.Doing.{UNIT, LAST_READ, PULL, PUSH, CSW_SENT, TAR_SENT, FIRST}
 use Rattle.wire_memap.specs.Laws.Doing.{Phase, Kind, Task, Doing, Reach, OpSized, phase_of, kind_of, task_of, doing_of, reach_of, remembered_of, stands, by_words}
 use Rattle.wire_memap.specs.Laws.Doing as P
-use Rattle.wire_memap.specs.declared.Went.{Went}
-use Rattle.wire_memap.specs.declared.Went.TheVariants.{Moving, Finished}
 
 -- a value that is not handed on
 abbrev pub unit : Then → Then
@@ -74,20 +68,20 @@ op_after d k m o = phase_after d.phase d.task d.left k m o
 abbrev pub started_tree : List ℕ → List ℕ → Then → Memory → Wire
 started_tree t m k s = transfer_tree s (transfer_of t) (reach_after (reach_of m) (op_after (doing_of m) k) s)
 
-abbrev pub went_tree : Went → List ℕ → List ℕ → List ℕ → List ℕ → Then → Wire
-went_tree Moving t m ws b k = started_tree t m k (stands m ws b)
-went_tree (Finished o) t m ws b k = k (stands m ws b) o
+abbrev pub went_tree : Option Outcome → List ℕ → List ℕ → List ℕ → List ℕ → Then → Wire
+went_tree None t m ws b k = started_tree t m k (stands m ws b)
+went_tree (Some o) t m ws b k = k (stands m ws b) o
 
-abbrev pub WentCounted : Went → List ℕ → Type 0
-WentCounted Moving t = Counted t
-WentCounted (Finished o) t = Unit {0}
+abbrev pub WentCounted : Option Outcome → List ℕ → Type 0
+WentCounted None t = Counted t
+WentCounted (Some o) t = Unit {0}
 
 -- an error behind SELECT ends the access, and every phase hands it on
-pub stage_fails : (b : Bool) (r : Reach) (k : Then) (m : Memory) (e : ArmError) → stage_after b r k m (Failed e) ≡ k m (Failed e)
+pub stage_fails : (b : Bool) (r : Reach) (k : Then) (m : Memory) (e : ArmError) → stage_after b r k m (Err e) ≡ k m (Err e)
 stage_fails true r k m e = refl
 stage_fails false r k m e = refl
 
-pub fails : (p : Phase) (t : Task) (l : ℕ) (k : Then) (m : Memory) (e : ArmError) → phase_after p t l k m (Failed e) ≡ k m (Failed e)
+pub fails : (p : Phase) (t : Task) (l : ℕ) (k : Then) (m : Memory) (e : ArmError) → phase_after p t l k m (Err e) ≡ k m (Err e)
 fails P.Only t l k m e = refl
 fails P.Unit t l k m e = refl
 fails P.Posted t l k m e = refl
@@ -123,12 +117,12 @@ pub record Begins (p : Action) (m₀ ws t m : List ℕ) : Type 0 where
   pub counted : Counted t
 
 -- The tree w goes on as r, in the words t and m and the row ws.
-pub record Goes (w : List ℕ → Then → Wire) (r : Went) (t m ws : List ℕ) : Type 0 where
+pub record Goes (w : List ℕ → Then → Wire) (r : Option Outcome) (t m ws : List ℕ) : Type 0 where
   pub tree : (b : List ℕ) (k : Then) → w b k ≡ went_tree r t m ws b k
   pub fits : Fits t m
   pub counted : WentCounted r t
 
-pub moves : {p : Action} {m₀ ws t m : List ℕ} → Begins p m₀ ws t m → Goes (λ b k. p k (stands m₀ ws b)) Moving t m ws
+pub moves : {p : Action} {m₀ ws t m : List ℕ} → Begins p m₀ ws t m → Goes (λ b k. p k (stands m₀ ws b)) None t m ws
 moves g = record { tree = g.tree; fits = g.fits; counted = g.counted }
 
 -- the stores of `selecting`
@@ -261,11 +255,11 @@ push_goes t m ws more w z e g f = begins_as g (record { tree = λ b k. here b k 
 
 -- a tree that is an action goes on as the action, and one that is over ends
 pub goes_of : {w : List ℕ → Then → Wire} {p : Action} {m₀ ws t m : List ℕ} → ((b : List ℕ) (k : Then) → w b k ≡ p k (stands m₀ ws b))
-    → Begins p m₀ ws t m → Goes w Moving t m ws
+    → Begins p m₀ ws t m → Goes w None t m ws
 goes_of e g = record { tree = λ b k. e b k ∙ g.tree b k; fits = g.fits; counted = g.counted }
 
 pub ends_with : {w : List ℕ → Then → Wire} {o : Outcome} {t m ws : List ℕ} → Fits t m → ((b : List ℕ) (k : Then) → w b k ≡ k (stands m ws b) o)
-    → Goes w (Finished o) t m ws
+    → Goes w (Some o) t m ws
 ends_with f e = record { tree = e; fits = f; counted = tt }
 
 -- a run of reads that has no words ends with TAR
@@ -309,7 +303,7 @@ abbrev pub tar_after : List ℕ → Action
 tar_after m k s = at_tar (task_of m) (get_or m 1 0) k (remembering s (csw_known s.remembered))
 
 abbrev pub value_tree : List ℕ → ℕ → List ℕ → List ℕ → Then → Wire
-value_tree m v ws b k = phase_after (phase_of (get_or m 0 0)) (task_of m) (get_or m 1 0) k (stands m ws b) (Value v)
+value_tree m v ws b k = phase_after (phase_of (get_or m 0 0)) (task_of m) (get_or m 1 0) k (stands m ws b) (Ok v)
 
 abbrev pub ended_tree : List ℕ → Outcome → List ℕ → List ℕ → Then → Wire
 ended_tree m o ws b k = reach_after (reach_of m) (op_after (doing_of m) k) (stands m ws b) o
@@ -343,14 +337,14 @@ abbrev pub task_by : ℕ → ℕ → ℕ → ℕ → Task
 task_by kind addr word last = record { kind = kind_of kind; addr = addr; word = word; last = last }
 
 -- the same tree
-pub goes_as : {w v : List ℕ → Then → Wire} {r : Went} {t m ws : List ℕ} → ((b : List ℕ) (k : Then) → w b k ≡ v b k) → Goes v r t m ws → Goes w r t m ws
+pub goes_as : {w v : List ℕ → Then → Wire} {r : Option Outcome} {t m ws : List ℕ} → ((b : List ℕ) (k : Then) → w b k ≡ v b k) → Goes v r t m ws → Goes w r t m ws
 goes_as e g = record { tree = λ b k. e b k ∙ g.tree b k; fits = g.fits; counted = g.counted }
 
 -- the word v of a run of reads, in the row rs with it
 pub value_pulls : (m ws : List ℕ) {rs : List ℕ} (v more : ℕ) → get_or m 0 0 ≡ PULL → rs ≡ set ws (get_or m 2 0 - get_or m 1 0) v → more ≡ get_or m 1 0 - 1
     → (b : List ℕ) (k : Then) → value_tree m v ws b k ≡ pull (get_or m 2 0) more k (stands m rs b)
 value_pulls m ws {rs} v more p r e b k =
-    ap (λ (n : ℕ). phase_after (phase_of n) (task_of m) (get_or m 1 0) k (stands m ws b) (Value v)) p
+    ap (λ (n : ℕ). phase_after (phase_of n) (task_of m) (get_or m 1 0) k (stands m ws b) (Ok v)) p
     ∙ ap (λ (x : List ℕ). pull (get_or m 2 0) (get_or m 1 0 - 1) k (stands m x b)) (sym r)
     ∙ ap (λ (x : ℕ). pull (get_or m 2 0) x k (stands m rs b)) (sym e)
 
@@ -358,22 +352,22 @@ value_pulls m ws {rs} v more p r e b k =
 pub value_first : (m ws : List ℕ) (v more : ℕ) → phase_of (get_or m 0 0) ≡ P.First → more ≡ get_or m 1 0 - 1
     → (b : List ℕ) (k : Then) → value_tree m v ws b k ≡ pull (get_or m 2 0) more k (stands m ws b)
 value_first m ws v more p e b k =
-    ap (λ (x : Phase). phase_after x (task_of m) (get_or m 1 0) k (stands m ws b) (Value v)) p
+    ap (λ (x : Phase). phase_after x (task_of m) (get_or m 1 0) k (stands m ws b) (Ok v)) p
     ∙ ap (λ (n : ℕ). pull (get_or m 2 0) n k (stands m ws b)) (sym e)
 
 -- the value of an access, and of the SELECT before it
-pub ended_value : (m ws : List ℕ) (v : ℕ) → get_or m 0 0 < 16 → (b : List ℕ) (k : Then) → ended_tree m (Value v) ws b k ≡ value_tree m v ws b k
+pub ended_value : (m ws : List ℕ) (v : ℕ) → get_or m 0 0 < 16 → (b : List ℕ) (k : Then) → ended_tree m (Ok v) ws b k ≡ value_tree m v ws b k
 ended_value m ws v l b k =
-    ap (λ (x : Bool). stage_after x (reach_of m) (op_after (doing_of m) k) (stands m ws b) (Value v)) (lt-leb 16 (get_or m 0 0) l)
-    ∙ ap (λ (x : ℕ). phase_after (phase_of x) (task_of m) (get_or m 1 0) k (stands m ws b) (Value v)) (mod16 (get_or m 0 0) l)
+    ap (λ (x : Bool). stage_after x (reach_of m) (op_after (doing_of m) k) (stands m ws b) (Ok v)) (lt-leb 16 (get_or m 0 0) l)
+    ∙ ap (λ (x : ℕ). phase_after (phase_of x) (task_of m) (get_or m 1 0) k (stands m ws b) (Ok v)) (mod16 (get_or m 0 0) l)
 
 pub ended_selects : (t m : List ℕ) {u w : List ℕ} (v : ℕ) (ws : List ℕ) → 16 ≤ get_or m 0 0
-    → (u ≡ begun (get_or m 6 0) (get_or m 7 0) t) × (w ≡ select_stands m) → Fits t m → Goes (ended_tree m (Value v) ws) Moving u w ws
+    → (u ≡ begun (get_or m 6 0) (get_or m 7 0) t) × (w ≡ select_stands m) → Fits t m → Goes (ended_tree m (Ok v) ws) None u w ws
 ended_selects t m {u} {w} v ws l g f =
-    subst (λ (x : List ℕ). Goes (ended_tree m (Value v) ws) Moving x w ws) (sym g.0)
-    (subst (λ (x : List ℕ). Goes (ended_tree m (Value v) ws) Moving (begun (get_or m 6 0) (get_or m 7 0) t) x ws) (sym g.1) (record {
+    subst (λ (x : List ℕ). Goes (ended_tree m (Ok v) ws) None x w ws) (sym g.0)
+    (subst (λ (x : List ℕ). Goes (ended_tree m (Ok v) ws) None (begun (get_or m 6 0) (get_or m 7 0) t) x ws) (sym g.1) (record {
       tree = λ b k. by_words (λ m. 16 ≤ get_or m 0 0
-          → ended_tree m (Value v) ws b k ≡ started_tree (begun (get_or m 6 0) (get_or m 7 0) t) (select_stands m) k (stands (select_stands m) ws b))
+          → ended_tree m (Ok v) ws b k ≡ started_tree (begun (get_or m 6 0) (get_or m 7 0) t) (select_stands m) k (stands (select_stands m) ws b))
           (λ m₀ m₁ m₂ m₃ m₄ m₅ m₆ m₇ m₈ m₉ m₁₀ m₁₁ l. simp (le-leb 16 m₀ l) (simp (lt-leb 16 (m₀ % 16) (omega arith)) (simp (twice m₀) (begun_is m₆ m₇ t f.0 _ _))))
           m f.1 l;
       fits = (begun_sized _ _ t f.0, by_words (λ m. OpSized (select_stands m)) (λ _ _ _ _ _ _ _ _ _ _ _ _. refl) m f.1);
@@ -383,14 +377,14 @@ ended_selects t m {u} {w} v ws l g f =
     twice : (n : ℕ) → n % 16 % 16 ≡ n % 16
     twice n = omega arith
 
-pub ended_fails : (m ws : List ℕ) (e : ArmError) (b : List ℕ) (k : Then) → ended_tree m (Failed e) ws b k ≡ k (stands m ws b) (Failed e)
+pub ended_fails : (m ws : List ℕ) (e : ArmError) (b : List ℕ) (k : Then) → ended_tree m (Err e) ws b k ≡ k (stands m ws b) (Err e)
 ended_fails m ws e b k =
     stage_fails (reach_of m).selecting (reach_of m) (op_after (doing_of m) k) (stands m ws b) e
     ∙ fails (doing_of m).phase (doing_of m).task (doing_of m).left k (stands m ws b) e
 
 -- What the value v of an operation's last access leaves: the operation's value r, and the row rs.
 abbrev pub Ends : ℕ → ℕ → List ℕ → List ℕ → List ℕ → Type 0
-Ends v r m ws rs = (b : List ℕ) (k : Then) → ended_tree m (Value v) ws b k ≡ k (stands m rs b) (Value r)
+Ends v r m ws rs = (b : List ℕ) (k : Then) → ended_tree m (Ok v) ws b k ≡ k (stands m rs b) (Ok r)
 
 tar_last : (n : ℕ) (none : Bool) → ends_at_tar n none ≡ true → (none ≡ true) × (n ≡ TAR_SENT)
 tar_last n true h = (refl, eqb-true n 7 h)
@@ -406,15 +400,15 @@ last_low n none = by_tar (ends_at_tar n none) refl
 
 -- such a phase by its number
 pub ends_at : (p : Phase) (m ws : List ℕ) {rs : List ℕ} (v r : ℕ) → following m ≡ false → phase_of (get_or m 0 0) ≡ p
-    → ((b : List ℕ) (k : Then) → phase_after p (task_of m) (get_or m 1 0) k (stands m ws b) (Value v) ≡ k (stands m rs b) (Value r)) → Ends v r m ws rs
+    → ((b : List ℕ) (k : Then) → phase_after p (task_of m) (get_or m 1 0) k (stands m ws b) (Ok v) ≡ k (stands m rs b) (Ok r)) → Ends v r m ws rs
 ends_at p m ws v r h e g b k =
     ended_value m ws v (omega (arith, last_low (get_or m 0 0) (empty m) h)) b k
-    ∙ ap (λ (x : Phase). phase_after x (task_of m) (get_or m 1 0) k (stands m ws b) (Value v)) e ∙ g b k
+    ∙ ap (λ (x : Phase). phase_after x (task_of m) (get_or m 1 0) k (stands m ws b) (Ok v)) e ∙ g b k
 
-empty_data : (m : List ℕ) (k : Then) (s : Memory) → empty m ≡ true → data_after m k s ≡ k s (Value 0)
+empty_data : (m : List ℕ) (k : Then) (s : Memory) → empty m ≡ true → data_after m k s ≡ k s (Ok 0)
 empty_data m k s = by_kind (eqb (get_or m 3 0) 2) refl
   where
-    by_kind : (x : Bool) → eqb (get_or m 3 0) 2 ≡ x → cond x (eqb (get_or m 1 0) 0) false ≡ true → data_after m k s ≡ k s (Value 0)
+    by_kind : (x : Bool) → eqb (get_or m 3 0) 2 ≡ x → cond x (eqb (get_or m 1 0) 0) false ≡ true → data_after m k s ≡ k s (Ok 0)
     by_kind true e h = simp (eqb-true (get_or m 3 0) 2 e) (simp h)
     by_kind false e h = absurd (true≢false (sym h))
 
@@ -447,10 +441,10 @@ first_phase n none h r = sym (past P.phases n P.First (from_least 3 6 n (follows
 
 -- What a function that does nothing where it answers false leaves: the tree w goes on, or all is as it was.
 pub record Tries (w : List ℕ → Then → Wire) (r : Bool) (t₀ m₀ ws₀ t m ws : List ℕ) : Type 0 where
-  pub moved : r ≡ true → Fits t₀ m₀ → Goes w Moving t m ws
+  pub moved : r ≡ true → Fits t₀ m₀ → Goes w None t m ws
   pub stays : r ≡ false → (t ≡ t₀) × (m ≡ m₀) × (ws ≡ ws₀)
 
-pub moved_on : {w : List ℕ → Then → Wire} {t₀ m₀ ws₀ t m ws : List ℕ} → (Fits t₀ m₀ → Goes w Moving t m ws) → Tries w true t₀ m₀ ws₀ t m ws
+pub moved_on : {w : List ℕ → Then → Wire} {t₀ m₀ ws₀ t m ws : List ℕ} → (Fits t₀ m₀ → Goes w None t m ws) → Tries w true t₀ m₀ ws₀ t m ws
 moved_on g = record { moved = λ _ f. g f; stays = λ e. absurd (true≢false e) }
 
 pub stayed : {w : List ℕ → Then → Wire} {t m ws : List ℕ} → Tries w false t m ws t m ws
@@ -458,28 +452,28 @@ stayed = record { moved = λ e f. absurd (true≢false (sym e)); stays = λ _. (
 
 -- a value is that of the transport call in flight, unless that is the ABORT
 pub good_step : (t m ws : List ℕ) (v : ℕ) {x : Bool} → x ≡ W.ignoring (transfer_of t).mode → x ≡ false
-    → (b : List ℕ) (k : Then) → step_tree t m (Good v) ws b k ≡ ended_tree m (Value v) ws b k
+    → (b : List ℕ) (k : Then) → step_tree t m (Ok v) ws b k ≡ ended_tree m (Ok v) ws b k
 good_step t m ws v e h b k = by_mode (transfer_of t).mode (sym e ∙ h)
   where
-    by_mode : (d : W.Mode) → W.ignoring d ≡ false → follow (W.flight d (stands m ws b) (transfer_of t) (reach_after (reach_of m) (op_after (doing_of m) k) (stands m ws b))) (Good v)
-        ≡ ended_tree m (Value v) ws b k
+    by_mode : (d : W.Mode) → W.ignoring d ≡ false → follow (W.flight d (stands m ws b) (transfer_of t) (reach_after (reach_of m) (op_after (doing_of m) k) (stands m ws b))) (Ok v)
+        ≡ ended_tree m (Ok v) ws b k
     by_mode W.trying q = refl
     by_mode W.aborting q = absurd (true≢false q)
     by_mode W.raw q = refl
 
 -- the next word of a run
 pub runs_reads : (t m ws : List ℕ) {u w rs : List ℕ} (v i : ℕ) → get_or m 0 0 ≡ PULL → 1 < get_or m 1 0 → i ≡ get_or m 2 0 - get_or m 1 0 → rs ≡ set ws i v
-    → (u ≡ begun (ap_reading DRW) 0 t) × (w ≡ set (set m 1 (get_or m 1 0 - 1)) 0 PULL) → Fits t m → Goes (ended_tree m (Value v) ws) Moving u w rs
+    → (u ≡ begun (ap_reading DRW) 0 t) × (w ≡ set (set m 1 (get_or m 1 0 - 1)) 0 PULL) → Fits t m → Goes (ended_tree m (Ok v) ws) None u w rs
 runs_reads t m ws {rs = rs} v i p l at r g f =
     goes_of (λ b k. ended_value m ws v (omega (arith, p)) b k
     ∙ value_pulls m ws v (get_or m 1 0 - 1) p (r ∙ ap (λ (j : ℕ). set ws j v) at) refl b k)
     (pull_goes t m (get_or m 1 0 - 1) (λ z. absurd (omega (arith, z, l))) g rs f)
 
 pub runs_writes : (t m ws : List ℕ) {u w : List ℕ} (v i x : ℕ) → get_or m 0 0 ≡ PUSH → 1 < get_or m 1 0 → i ≡ get_or m 2 0 - (get_or m 1 0 - 2) → x ≡ get_or ws i 0
-    → (u ≡ begun (ap_writing DRW) x t) × (w ≡ set (set m 1 (get_or m 1 0 - 1)) 0 PUSH) → Fits t m → Goes (ended_tree m (Value v) ws) Moving u w ws
+    → (u ≡ begun (ap_writing DRW) x t) × (w ≡ set (set m 1 (get_or m 1 0 - 1)) 0 PUSH) → Fits t m → Goes (ended_tree m (Ok v) ws) None u w ws
 runs_writes t m ws v i x p l at r g f =
     goes_of (λ b k. ended_value m ws v (omega (arith, p)) b k
-    ∙ ap (λ (n : ℕ). phase_after (phase_of n) (task_of m) (get_or m 1 0) k (stands m ws b) (Value v)) p)
+    ∙ ap (λ (n : ℕ). phase_after (phase_of n) (task_of m) (get_or m 1 0) k (stands m ws b) (Ok v)) p)
     (push_goes t m ws (get_or m 1 0 - 1) x (λ z. absurd (omega (arith, z, l)))
     (r ∙ ap (λ (j : ℕ). get_or ws j 0) (at ∙ ap (λ (j : ℕ). get_or m 2 0 - j) (less_two (get_or m 1 0)))) g f)
   where
@@ -487,19 +481,19 @@ runs_writes t m ws v i x p l at r g f =
     less_two n = omega arith
 
 -- the transport call in flight goes on, or it is over
-pub step_again : (t m u ws : List ℕ) (a : Answer) {r : WW.Went} → W.Goes (λ s k. follow (transfer_tree s (transfer_of t) k) a) r u → r ≡ Again → OpSized m
-    → Goes (step_tree t m a ws) Moving u m ws
+pub step_again : (t m u ws : List ℕ) (a : Answer) {r : Option Outcome} → W.Goes (λ s k. follow (transfer_tree s (transfer_of t) k) a) r u → r ≡ None → OpSized m
+    → Goes (step_tree t m a ws) None u m ws
 step_again t m u ws a {r} g e h = record { tree = λ b k. again.tree (stands m ws b) _; fits = (g.sized, h); counted = again.counted }
   where
-    again : W.Goes (λ s k. follow (transfer_tree s (transfer_of t) k) a) Again u
-    again = subst (λ (x : WW.Went). W.Goes (λ s k. follow (transfer_tree s (transfer_of t) k) a) x u) e g
+    again : W.Goes (λ s k. follow (transfer_tree s (transfer_of t) k) a) None u
+    again = subst (λ (x : Option Outcome). W.Goes (λ s k. follow (transfer_tree s (transfer_of t) k) a) x u) e g
 
-pub step_ended : (t m u ws : List ℕ) (a : Answer) (o : Outcome) {r : WW.Went} {x : Went} {t' m' ws' : List ℕ}
-    → W.Goes (λ s k. follow (transfer_tree s (transfer_of t) k) a) r u → r ≡ Ended o → Goes (ended_tree m o ws) x t' m' ws' → Goes (step_tree t m a ws) x t' m' ws'
+pub step_ended : (t m u ws : List ℕ) (a : Answer) (o : Outcome) {r : Option Outcome} {x : Option Outcome} {t' m' ws' : List ℕ}
+    → W.Goes (λ s k. follow (transfer_tree s (transfer_of t) k) a) r u → r ≡ Some o → Goes (ended_tree m o ws) x t' m' ws' → Goes (step_tree t m a ws) x t' m' ws'
 step_ended t m u ws a o {r} g e h = goes_as (λ b k. ended.tree (stands m ws b) _) h
   where
-    ended : W.Goes (λ s k. follow (transfer_tree s (transfer_of t) k) a) (Ended o) u
-    ended = subst (λ (x : WW.Went). W.Goes (λ s k. follow (transfer_tree s (transfer_of t) k) a) x u) e g
+    ended : W.Goes (λ s k. follow (transfer_tree s (transfer_of t) k) a) (Some o) u
+    ended = subst (λ (x : Option Outcome). W.Goes (λ s k. follow (transfer_tree s (transfer_of t) k) a) x u) e g
 
 -- a request is a byte
 pub byte_request : (n r a : ℕ) → r ≡ a → r ≤ 12 → n ≤ 3 → (n + r) % 256 ≡ n + a

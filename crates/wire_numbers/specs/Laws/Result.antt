@@ -1,9 +1,8 @@
 -- A call succeeded exactly if its result number is 0. Serves the proofs only.
-use Rattle.std.specs.Prelude.{false, ◌≡◌, refl, eqb}
+use Rattle.std.specs.Prelude.{false, ◌≡◌, refl, eqb, Ok, Err}
 use Rattle.wire.specs.Wire.{Ending, ended, spent, succeeds}
 use Rattle.wire.specs.declared.ArmError.{ArmError}
 use Rattle.wire.specs.declared.ArmError.TheVariants as E
-use Rattle.wire.specs.declared.Outcome.TheVariants.{Value, Failed}
 use Rattle.wire_numbers.specs.Results.{error_number, ending_of}
 
 failed_number : (e : ArmError) → eqb (error_number e) 0 ≡ false
@@ -19,6 +18,6 @@ failed_number E.Align = refl
 failed_number E.TableEnd = refl
 
 pub number_tells : (e : Ending) → eqb (ending_of e).number 0 ≡ succeeds e
-number_tells (ended (Value v)) = refl
-number_tells (ended (Failed e)) = failed_number e
+number_tells (ended (Ok v)) = refl
+number_tells (ended (Err e)) = failed_number e
 number_tells spent = refl

@@ -5,9 +5,9 @@ use Rattle.wire_runs.proofs.op_runs.Goals as goal
 pub returns-then-phase-eq-PUSH : goal.returns-then-phase-eq-PUSH
 returns-then-phase-eq-PUSH c =
     let a = c.args in moved_on (λ f. goes_as (good_step a.t.now a.m.now a.row.now a.v c.is_aborting.ensures c.if-is_aborting.false)
-    (runs_writes a.t.now a.m.now a.row.now a.v _ _ c.if-phase-eq-PUSH.true c.if-n-gt1.true c.minus.ensures c.word_at-w.ensures c.direct.ensures f))
+    (runs_writes a.t.now a.m.now a.row.now a.v _ _ c.if-phase-eq-PUSH.true c.if-n-gt1.true c.saturating_sub.ensures c.get_or-w.ensures c.direct.ensures f))
 
 pub returns-then-phase-eq-PULL : goal.returns-then-phase-eq-PULL
 returns-then-phase-eq-PULL c =
     let a = c.args in moved_on (λ f. goes_as (good_step a.t.now a.m.now a.row.now a.v c.is_aborting.ensures c.if-is_aborting.false)
-    (runs_reads a.t.now a.m.now a.row.now a.v _ c.if-phase-eq-PULL.true c.if-n-gt1.true c.minus-then-phase-eq-PULL.ensures c.place_word.ensures c.direct-then-phase-eq-PULL.ensures f))
+    (runs_reads a.t.now a.m.now a.row.now a.v _ c.if-phase-eq-PULL.true c.if-n-gt1.true c.saturating_sub-then-phase-eq-PULL.ensures c.put.ensures c.direct-then-phase-eq-PULL.ensures f))

@@ -23,6 +23,6 @@ pub returns-in_default : goal.returns-in_default
 returns-in_default c =
     λ h f. let a = c.args in
     begins_of (data_writes a.m.now a.row.now _ c.in_default.in_default-own.rest
-    (c.word_at-word.ensures ∙ ap (λ (i : ℕ). get_or a.row.now i 0) (c.minus-in_default.ensures
-    ∙ ap (λ (i : ℕ). get_or a.m.now 2 0 - i) c.minus.ensures)))
+    (c.get_or-word.ensures ∙ ap (λ (i : ℕ). get_or a.row.now i 0) (c.saturating_sub-place.ensures
+    ∙ ap (λ (i : ℕ). get_or a.m.now 2 0 - i) c.saturating_sub.ensures)))
     (accesses c.access-in_default.ensures (omega arith) f _)

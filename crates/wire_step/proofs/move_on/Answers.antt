@@ -14,7 +14,7 @@ pub returns-in-3 : goal.returns-in-3
 returns-in-3 c =
     λ h f. let a = c.args in goes_as (ended_value a.m.now a.row.now a.v c.if-phase-ge-SELECTING.false)
     (goes_of (value_pulls a.m.now a.row.now a.v _ c.in-3.is
-    (c.place_word.ensures ∙ ap (λ (i : ℕ). set a.row.now i a.v) c.minus.ensures) c.minus-in-3.ensures) (c.pull_on.ensures _ f))
+    (c.put.ensures ∙ ap (λ (i : ℕ). set a.row.now i a.v) c.saturating_sub.ensures) c.saturating_sub-in-3.ensures) (c.pull_on.ensures _ f))
 
 pub returns-in-5 : goal.returns-in-5
 returns-in-5 c =
@@ -34,4 +34,4 @@ returns-in-8 c =
 pub returns-in_default : goal.returns-in_default
 returns-in_default c =
     λ h f. let a = c.args in goes_as (ended_value a.m.now a.row.now a.v c.if-phase-ge-SELECTING.false)
-    (goes_of (value_first a.m.now a.row.now a.v _ (first_phase (get_or a.m.now 0 0) (empty a.m.now) h c.in_default.in_default-own.rest) c.minus-in_default.ensures) (c.pull_on-in_default.ensures _ f))
+    (goes_of (value_first a.m.now a.row.now a.v _ (first_phase (get_or a.m.now 0 0) (empty a.m.now) h c.in_default.in_default-own.rest) c.saturating_sub-in_default.ensures) (c.pull_on-in_default.ensures _ f))

@@ -5,5 +5,5 @@ use Rattle.wire_step.proofs.op_ended.Goals as goal
 
 pub returns-else-follows : goal.returns-else-follows
 returns-else-follows c =
-    λ f. ends_with f (λ b k. simp c.in-Value.is
+    λ f. ends_with f (λ b k. simp c.in-Ok.is
     (c.last_value-last.ensures (sym c.follows.ensures ∙ c.if-follows.false) b k))

@@ -11,4 +11,4 @@ returns-then-more-eq0 c =
 pub returns : goal.returns
 returns c =
     let a = c.args in push_goes a.t.now a.m.now a.row.now a.more _ c.if-more-eq0.false
-    (c.word_at-v.ensures ∙ ap (λ i. get_or a.row.now i 0) c.minus.ensures) c.direct-2.ensures
+    (c.get_or-v.ensures ∙ ap (λ i. get_or a.row.now i 0) c.saturating_sub.ensures) c.direct-2.ensures

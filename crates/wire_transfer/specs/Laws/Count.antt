@@ -1,14 +1,14 @@
 -- The calls of one transfer, whatever is answered: `transfer_calls`. By induction on the tries that are left: a WAIT makes the same
 -- call again, any other error makes one ABORT.
-use Rattle.std.specs.Prelude.{ℕ, zero, suc, Bool, true, false, List, [], ◌∷◌, refl, eqb}
+use Rattle.std.specs.Prelude.{ℕ, zero, suc, Bool, true, false, List, [], ◌∷◌, refl, eqb, Ok, Err}
 use Rattle.std.proofs.Common.{ap, arith}
 use Rattle.wire.specs.Wire.{Memory, done, play}
 use Rattle.wire_transfer.specs.Transfer.{clear_sticky_errors, after_ack, after_answer, tries, transfer}
 use Rattle.wire_transfer.specs.Count.{Tried}
 use Rattle.wire.specs.declared.Call.{Call}
 use Rattle.wire.specs.declared.Call.TheVariants as C
-use Rattle.wire.specs.declared.Answer.{Answer}
-use Rattle.wire.specs.declared.Answer.TheVariants.{Good, SwdError, NotSupported, Other}
+use Rattle.wire.specs.Outcomes.{Answer}
+use Rattle.wire.specs.declared.DapError.TheVariants.{SwdError, NotSupported, Other}
 use Rattle.wire.specs.declared.ArmError.{ArmError}
 use Rattle.wire.specs.declared.ArmError.TheVariants as E
 
@@ -39,10 +39,10 @@ module _ (n : ℕ) (m : Memory) (c : Call) (ih : (answers : List Answer) → Tri
 
   after_answer_lem : (a : Answer) (rest : List Answer) → Tried n c (play (after_answer m (tries n m c (done m)) (done m) a) rest).calls
   unfolding play
-  after_answer_lem (Good v) rest = none n c
-  after_answer_lem (SwdError ack) rest = after_ack_lem (eqb ack 2) ack rest
-  after_answer_lem NotSupported rest = aborted n c m E.NotSupported rest
-  after_answer_lem Other rest = aborted n c m E.Internal rest
+  after_answer_lem (Ok v) rest = none n c
+  after_answer_lem (Err (SwdError ack)) rest = after_ack_lem (eqb ack 2) ack rest
+  after_answer_lem (Err NotSupported) rest = aborted n c m E.NotSupported rest
+  after_answer_lem (Err Other) rest = aborted n c m E.Internal rest
 
 -- one transfer with nothing after it: at most 65 times the same call, then at most one ABORT
 pub transfer_calls : (m : Memory) (request word : ℕ) (answers : List Answer)

@@ -1,9 +1,9 @@
 -- What a transport call in flight stands for. Serves the proofs only.
-use Rattle.std.specs.Prelude.{ℕ, zero, suc, ◌+◌, ◌-◌, ◌%◌, ◌<◌, ◌≤◌, List, [], ◌∷◌, ◌≡◌, refl, Bool, true, false, eqb, length, get_or, set}
+use Rattle.std.specs.Prelude.{ℕ, zero, suc, ◌+◌, ◌-◌, ◌%◌, ◌<◌, ◌≤◌, List, [], ◌∷◌, ◌≡◌, refl, Bool, true, false, eqb, length, get_or, set, Err, Option, None, Some}
 use Rattle.std.proofs.Common.{sym, ap, subst, ◌∙◌, arith, ne_eqb}
 use Rattle.wire.specs.Bytes.{pattern_at}
 use Rattle.wire.specs.Wire.{Wire, ask, tell, follow, Memory}
-use Rattle.wire.specs.declared.Answer.{Answer}
+use Rattle.wire.specs.Outcomes.{Answer}
 use Rattle.wire_transfer.specs.Count.{Counted}
 use Rattle.wire.specs.Laws.Rows.{spelled}
 use Rattle.wire.specs.Laws.Told.{error_of}
@@ -13,10 +13,7 @@ use Rattle.wire.specs.declared.ArmError.{ArmError}
 use Rattle.wire.specs.declared.ArmError.TheVariants as E
 use Rattle.wire.specs.declared.Call.{Call}
 use Rattle.wire.specs.declared.Call.TheVariants as C
-use Rattle.wire.specs.declared.Outcome.{Outcome}
-use Rattle.wire.specs.declared.Outcome.TheVariants.{Failed}
-use Rattle.wire_transfer.specs.declared.Went.{Went}
-use Rattle.wire_transfer.specs.declared.Went.TheVariants.{Again, Ended}
+use Rattle.wire.specs.Outcomes.{Outcome}
 
 pub data Mode : Type 0 where
   trying : Mode
@@ -59,28 +56,28 @@ Trying t = Sized t × (get_or t 0 0 ≡ 0)
 
 abbrev pub flight : Mode → Memory → Transfer → (Outcome → Wire) → Wire
 flight trying m t k = ask m t.call (after_answer m (tries (65 - t.made) m t.call k) k)
-flight aborting m t k = tell m t.call (k (Failed t.error))
+flight aborting m t k = tell m t.call (k (Err t.error))
 flight raw m t k = ask m t.call (λ a. k (raw_outcome a))
 
 abbrev pub transfer_tree : Memory → Transfer → (Outcome → Wire) → Wire
 transfer_tree m t k = flight t.mode m t k
 
-abbrev pub went_tree : Memory → Went → List ℕ → (Outcome → Wire) → Wire
-went_tree m Again t k = transfer_tree m (transfer_of t) k
-went_tree m (Ended o) t k = k o
+abbrev pub went_tree : Memory → Option Outcome → List ℕ → (Outcome → Wire) → Wire
+went_tree m None t k = transfer_tree m (transfer_of t) k
+went_tree m (Some o) t k = k o
 
-abbrev pub WentCounted : Went → List ℕ → Type 0
-WentCounted Again t = Counted t
-WentCounted (Ended o) t = Unit {0}
+abbrev pub WentCounted : Option Outcome → List ℕ → Type 0
+WentCounted None t = Counted t
+WentCounted (Some o) t = Unit {0}
 
 -- the tree w goes on as r, with the words t
-pub record Goes (w : Memory → (Outcome → Wire) → Wire) (r : Went) (t : List ℕ) : Type 0 where
+pub record Goes (w : Memory → (Outcome → Wire) → Wire) (r : Option Outcome) (t : List ℕ) : Type 0 where
   pub tree : (m : Memory) (k : Outcome → Wire) → w m k ≡ went_tree m r t k
   pub sized : Sized t
   pub counted : WentCounted r t
 
 -- the same tree goes on the same way
-pub goes_as : {w v : Memory → (Outcome → Wire) → Wire} {r : Went} {t : List ℕ} → ((m : Memory) (k : Outcome → Wire) → w m k ≡ v m k) → Goes v r t → Goes w r t
+pub goes_as : {w v : Memory → (Outcome → Wire) → Wire} {r : Option Outcome} {t : List ℕ} → ((m : Memory) (k : Outcome → Wire) → w m k ≡ v m k) → Goes v r t → Goes w r t
 goes_as e g = record { tree = λ m k. e m k ∙ g.tree m k; sized = g.sized; counted = g.counted }
 
 -- the stores of the code
@@ -146,17 +143,17 @@ tries_more n m c k h = ap (λ (j : ℕ). tries j m c k) more
 abbrev pub waits : List ℕ → Memory → (Outcome → Wire) → Wire
 waits t m k = tries (65 - (transfer_of t).made) m (transfer_of t).call k
 
-pub waits_no_more : (t : List ℕ) → Trying t → 65 ≤ get_or t 1 0 → Goes (waits t) (Ended (Failed E.Wait)) t
+pub waits_no_more : (t : List ℕ) → Trying t → 65 ≤ get_or t 1 0 → Goes (waits t) (Some (Err E.Wait)) t
 unfolding tries
 waits_no_more t h e = record { tree = λ m k. ap (λ (j : ℕ). tries j m (transfer_of t).call k) none; sized = h.0; counted = tt }
   where
     none : 65 - get_or t 1 0 ≡ 0
     none = omega (arith, e)
 
-pub waits_again : (t : List ℕ) → Trying t → get_or t 1 0 < 65 → Goes (waits t) Again (set t 1 (get_or t 1 0 + 1))
-waits_again t h = by_words (λ t. get_or t 0 0 ≡ 0 → get_or t 1 0 < 65 → Goes (waits t) Again (set t 1 (get_or t 1 0 + 1))) more t h.0 h.1
+pub waits_again : (t : List ℕ) → Trying t → get_or t 1 0 < 65 → Goes (waits t) None (set t 1 (get_or t 1 0 + 1))
+waits_again t h = by_words (λ t. get_or t 0 0 ≡ 0 → get_or t 1 0 < 65 → Goes (waits t) None (set t 1 (get_or t 1 0 + 1))) more t h.0 h.1
   where
-    more : (a b c d e f g : ℕ) → a ≡ 0 → b < 65 → Goes (waits (a ∷ b ∷ c ∷ d ∷ e ∷ f ∷ g ∷ [])) Again (a ∷ (b + 1) ∷ c ∷ d ∷ e ∷ f ∷ g ∷ [])
+    more : (a b c d e f g : ℕ) → a ≡ 0 → b < 65 → Goes (waits (a ∷ b ∷ c ∷ d ∷ e ∷ f ∷ g ∷ [])) None (a ∷ (b + 1) ∷ c ∷ d ∷ e ∷ f ∷ g ∷ [])
     more a b c d e f g z l = record { tree = λ m k. simp z (tries_more b m (call_of c d f e) k l); sized = refl; counted = omega (arith, l) }
 
 -- what an answer to a try leads to
@@ -164,16 +161,15 @@ abbrev pub answered : List ℕ → Answer → Memory → (Outcome → Wire) → 
 answered t a m k = follow (flight trying m (transfer_of t) k) a
 
 -- any other error than WAIT
-pub fails_with : (error ack : ℕ) (t : List ℕ) {w : Memory → (Outcome → Wire) → Wire} {r : Went} {u : List ℕ} → (r ≡ Again) × (u ≡ aborts error ack t) → Sized t
-    → ((m : Memory) (k : Outcome → Wire) → w m k ≡ clear_sticky_errors m (error_of error ack) k) → Goes w r u
-fails_with error ack t {w} {r} {u} e h tree = subst (λ (x : Went). Goes w x u) (sym e.0) (subst (λ (x : List ℕ). Goes w Again x) (sym e.1) (record {
-  tree = λ m k. tree m k ∙ aborts_is error ack t h m k;
-  sized = aborts_sized error ack t h;
-  counted = aborts_counted error ack t h;
-}))
+pub fails_with : (error ack : ℕ) (t : List ℕ) {e : ArmError} → error_of error ack ≡ e → Sized t → Goes (λ m k. clear_sticky_errors m e k) None (aborts error ack t)
+fails_with error ack t h s = record {
+  tree = λ m k. ap (λ (e : ArmError). clear_sticky_errors m e k) (sym h) ∙ aborts_is error ack t s m k;
+  sized = aborts_sized error ack t s;
+  counted = aborts_counted error ack t s;
+}
 
 -- by the mode
-pub mode_step : (d : Mode) (t : List ℕ) (a : Answer) (r : Went) (u : List ℕ) → (transfer_of t).mode ≡ d
+pub mode_step : (d : Mode) (t : List ℕ) (a : Answer) (r : Option Outcome) (u : List ℕ) → (transfer_of t).mode ≡ d
     → Goes (λ m k. follow (flight d m (transfer_of t) k) a) r u → Goes (λ m k. follow (transfer_tree m (transfer_of t) k) a) r u
 mode_step d t a r u h g = subst (λ (e : Mode). Goes (λ m k. follow (flight e m (transfer_of t) k) a) r u) (sym h) g
 

@@ -1,7 +1,0 @@
--- The texts of the parts, one behind the other.
-use Rattle.std.proofs.Common.{rules}
-use Rattle.script_lines.specs.Laws.Puts.{puts_then}
-use Rattle.script_lines.proofs.put_transfer.Goals as goal
-
-pub returns : goal.returns
-returns c = (puts_then c.put-p.ensures (puts_then c.put_field-p2.ensures.0 c.put_field.ensures.0), search rules)

@@ -1,8 +1,0 @@
--- The numbers left go down.
-use Rattle.test_soak.proofs.nth.Given as goal
-
-abbrev pub invariant-loop-left : goal.invariant-loop-left
-invariant-loop-left l = Unit {0}
-
-abbrev pub decreases-loop-left : goal.decreases-loop-left
-decreases-loop-left l = l.left

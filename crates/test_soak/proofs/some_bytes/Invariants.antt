@@ -1,9 +1,0 @@
--- The place goes up to the last one.
-use Rattle.std.proofs.Common.{◌-◌, ◌≤◌}
-use Rattle.test_soak.proofs.some_bytes.Given as goal
-
-abbrev pub invariant-loop-i : goal.invariant-loop-i
-invariant-loop-i l = l.i ≤ 32
-
-abbrev pub decreases-loop-i : goal.decreases-loop-i
-decreases-loop-i l = 32 - l.i
