@@ -2,7 +2,10 @@
 // bound.
 #![tactic(auto)]
 
-ghost use Rattle.std.specs.Prelude.{◌≡◌, ◌-◌, ◌<◌, ◌≤◌, Some, slice_get};
+ghost use Rattle.wire.specs.Bytes.{handed, padded};
+ghost use Rattle.wire.specs.declared.Call.{Call};
+ghost use Rattle.wire_numbers.specs.Numbers.{numbers_of};
+ghost use Rattle.std.specs.Prelude.{◌≡◌, ◌-◌, ◌<◌, ◌≤◌, Some, slice_get, length};
 
 use call_core::CallFrame;
 use std::fmt;
@@ -70,33 +73,49 @@ impl Printer {
         self.waiting += 1;
     }
 
-    fn put(&mut self, text: &[u8]) {
-        for byte in text {
-            self.put_byte(*byte);
+    fn put(&mut self, text: &[u8])
+        ensures waits { 0 < length text.now → 0 < self.new.waiting }
+        ensures last { 0 < length text.now → slice_get self.new.room (self.new.waiting - 1) ≡ slice_get text.now (length text.now - 1) }
+    {
+        if let Some((last, rest)) = text.split_last() {
+            for byte in rest {
+                self.put_byte(*byte);
+            }
+            self.put_byte(*last);
         }
     }
 
     // `#` and the number of a call.
-    pub fn put_head(&mut self, number: u32) {
-        let _ = writeln!(self, "# {number}");
+    pub fn put_head(&mut self, number: u32)
+        ensures waits { 0 < self.new.waiting }
+        ensures line { slice_get self.new.room (self.new.waiting - 1) ≡ Some 10 }
+    {
+        let _ = write!(self, "# {number}");
+        self.put_byte(b'\n');
     }
 
     // A transport call with its number, as a script prints it.
-    pub fn put_call(&mut self, number: u32, c: TransportCall, bytes: [u8; 16]) {
+    pub fn put_call(&mut self, number: u32, c: TransportCall, bytes: [u8; 16])
+        ensures waits { (made : Call) → c ≡ numbers_of made → bytes ≡ padded (handed made) → 0 < self.new.waiting }
+    {
         let mut line = [0u8; 57];
         let n = script_lines::put_made(&mut line, number, c, bytes);
         self.put(&line[..n]);
     }
 
     // A result, as a script prints it.
-    pub fn put_result(&mut self, e: CallEnding) {
+    pub fn put_result(&mut self, e: CallEnding)
+        ensures waits { 0 < self.new.waiting }
+    {
         let mut line = [0u8; 20];
         let n = script_lines::put_ending(&mut line, e);
         self.put(&line[..n]);
     }
 
     // What is printed for bytes that are no list.
-    pub fn put_malformed(&mut self) {
+    pub fn put_malformed(&mut self)
+        ensures waits { 0 < self.new.waiting }
+    {
         let mut line = [0u8; 20];
         let n = script_lines::put_malformed(&mut line);
         self.put(&line[..n]);
@@ -130,12 +149,16 @@ impl Printer {
     }
 
     // Whether a session is open, and what it remembers.
-    pub fn put_session(&mut self, open: bool, r: Remembered) {
+    pub fn put_session(&mut self, open: bool, r: Remembered)
+        ensures waits { 0 < self.new.waiting }
+        ensures line { slice_get self.new.room (self.new.waiting - 1) ≡ Some 10 }
+    {
         let open = u8::from(open);
         let select = r.select;
         let csw = if r.csw { CSW } else { UNKNOWN };
         let apsel = r.apsel;
-        let _ = writeln!(self, "S {open} {select:08X} {csw:08X} {apsel:02X}");
+        let _ = write!(self, "S {open} {select:08X} {csw:08X} {apsel:02X}");
+        self.put_byte(b'\n');
     }
 
     // The registers of a target, in the order in which they are printed.
