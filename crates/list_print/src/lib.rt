@@ -15,6 +15,8 @@ use wire_numbers::{CallEnding, TransportCall};
 
 const STDOUT_FILENO: i32 = 1;
 
+const DIGITS: [u8; 16] = *b"0123456789ABCDEF";
+
 // How the CSW is printed that the session remembers, and one that it does not know.
 const CSW: u32 = 0x23000012;
 
@@ -48,6 +50,7 @@ impl Printer {
     }
 
     // Writes what waits.
+    #[inline(never)]
     pub fn write_out(&mut self)
         ensures { self.new.waiting ≡ 0 }
     {
@@ -83,6 +86,36 @@ impl Printer {
             }
             self.put_byte(*last);
         }
+    }
+
+    // A byte in two hexadecimal digits, put at once where there is room for both. By a table, since most of what a list prints are bytes
+    // and `{:02X}` takes twenty times as long.
+    #[inline(always)]
+    fn put_hex(&mut self, byte: u8)
+        ensures waits { 0 < self.new.waiting }
+    {
+        let high = DIGITS[usize::from(byte / 16)];
+        let low = DIGITS[usize::from(byte % 16)];
+        let at = self.waiting;
+        if at < self.room.len() - 1 {
+            self.room[at] = high;
+            self.room[at + 1] = low;
+            self.waiting = at + 2;
+        } else {
+            self.put_byte(high);
+            self.put_byte(low);
+        }
+    }
+
+    // A word in eight.
+    fn put_word(&mut self, word: u32)
+        ensures waits { 0 < self.new.waiting }
+    {
+        let [b3, b2, b1, b0] = word.to_be_bytes();
+        self.put_hex(b3);
+        self.put_hex(b2);
+        self.put_hex(b1);
+        self.put_hex(b0);
     }
 
     // `#` and the number of a call.
@@ -131,7 +164,7 @@ impl Printer {
             self.put_byte(b' ');
         }
         for byte in bytes {
-            let _ = write!(self, "{byte:02X}");
+            self.put_hex(*byte);
         }
         self.put_byte(b'\n');
     }
@@ -143,7 +176,7 @@ impl Printer {
     {
         self.put(b"D ");
         for word in <[u32; 8]>::from(frame) {
-            let _ = write!(self, "{word:08X}");
+            self.put_word(word);
         }
         self.put_byte(b'\n');
     }
@@ -153,11 +186,12 @@ impl Printer {
         ensures waits { 0 < self.new.waiting }
         ensures line { slice_get self.new.room (self.new.waiting - 1) ≡ Some 10 }
     {
-        let open = u8::from(open);
-        let select = r.select;
-        let csw = if r.csw { CSW } else { UNKNOWN };
-        let apsel = r.apsel;
-        let _ = write!(self, "S {open} {select:08X} {csw:08X} {apsel:02X}");
+        self.put(if open { b"S 1 " } else { b"S 0 " });
+        self.put_word(r.select);
+        self.put_byte(b' ');
+        self.put_word(if r.csw { CSW } else { UNKNOWN });
+        self.put_byte(b' ');
+        self.put_hex(r.apsel);
         self.put_byte(b'\n');
     }
 
@@ -168,7 +202,8 @@ impl Printer {
     {
         self.put_byte(b'R');
         for register in registers {
-            let _ = write!(self, " {register:08X}");
+            self.put_byte(b' ');
+            self.put_word(register);
         }
         self.put_byte(b'\n');
     }
