@@ -2,7 +2,7 @@
 // the records keep among each other. Numbers are big-endian.
 #![tactic(auto)]
 
-ghost use Rattle.std.specs.Prelude.{◌≡◌, ◌+◌, ◌<◌, ◌≤◌, length, drop, slice_get, Some, IfSome, IsTrue};
+ghost use Rattle.std.specs.Prelude.{◌≡◌, ◌+◌, ◌*◌, ◌<◌, ◌≤◌, ◌++◌, length, drop, get_or, slice_get, Some, IfSome, IsNone, IsTrue};
 ghost use Rattle.std.specs.Iterator.{at_most};
 
 use list_records::{Given, Record, Start};
@@ -16,6 +16,9 @@ const VERSION: u8 = 3;
 pub fn split_record(records: &[u8]) -> Option<(&[u8], &[u8])>
     ensures short { IfSome result (λ r. length r.0.now ≤ 65535) }
     ensures whole { IfSome result (λ r. 2 + length r.0.now + length r.1.now ≡ length records.now) }
+    ensures told { IfSome result (λ r. length r.0.now ≡ 256 * get_or records.now 0 0 + get_or records.now 1 0) }
+    ensures parts { IfSome result (λ r. r.0.now ++ r.1.now ≡ drop 2 records.now) }
+    ensures none { IsNone result → length records.now < 2 + (256 * get_or records.now 0 0 + get_or records.now 1 0) }
 {
     let (length, rest) = records.split_first_chunk::<2>()?;
     rest.split_at_checked(usize::from(u16::from_be_bytes(*length)))
