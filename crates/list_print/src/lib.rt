@@ -88,8 +88,8 @@ impl Printer {
         }
     }
 
-    // A byte in two hexadecimal digits, put at once where there is room for both. By a table, since most of what a list prints are bytes
-    // and `{:02X}` takes twenty times as long.
+    // Stays: digits by a table: most of what a list prints are bytes, and `{:02X}` takes twenty times as long.
+    // A byte in two hexadecimal digits, put at once where there is room for both.
     #[inline(always)]
     fn put_hex(&mut self, byte: u8)
         ensures waits { 0 < self.new.waiting }
@@ -108,7 +108,7 @@ impl Printer {
     }
 
     // A word in eight.
-    fn put_word(&mut self, word: u32)
+    fn put_hex_word(&mut self, word: u32)
         ensures waits { 0 < self.new.waiting }
     {
         let [b3, b2, b1, b0] = word.to_be_bytes();
@@ -176,7 +176,7 @@ impl Printer {
     {
         self.put(b"D ");
         for word in <[u32; 8]>::from(frame) {
-            self.put_word(word);
+            self.put_hex_word(word);
         }
         self.put_byte(b'\n');
     }
@@ -187,9 +187,9 @@ impl Printer {
         ensures line { slice_get self.new.room (self.new.waiting - 1) ≡ Some 10 }
     {
         self.put(if open { b"S 1 " } else { b"S 0 " });
-        self.put_word(r.select);
+        self.put_hex_word(r.select);
         self.put_byte(b' ');
-        self.put_word(if r.csw { CSW } else { UNKNOWN });
+        self.put_hex_word(if r.csw { CSW } else { UNKNOWN });
         self.put_byte(b' ');
         self.put_hex(r.apsel);
         self.put_byte(b'\n');
@@ -203,7 +203,7 @@ impl Printer {
         self.put_byte(b'R');
         for register in registers {
             self.put_byte(b' ');
-            self.put_word(register);
+            self.put_hex_word(register);
         }
         self.put_byte(b'\n');
     }
